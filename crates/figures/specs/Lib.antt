@@ -1,0 +1,9 @@
+pub mod Limits
+pub mod Types
+pub mod Names
+pub mod Policies
+pub mod Accounts
+pub mod Rights
+pub mod Keys
+pub mod Loads
+pub mod Replies

@@ -1,0 +1,3 @@
+-- Laws of the words on lists, for the proofs of every crate above.
+pub mod Walks
+pub mod Lists
