@@ -3,11 +3,10 @@ use Prim.Native.Nat.{ℕ, _+_}
 use mathlib.Core.Bool.{Bool, true, not, _&&_, _||_}
 use lib.Dec.{ltb, eqb}
 use Rattle.places.specs.Words.{if_then_else_}
-use Rattle.figures.specs.Limits.{purseLimit}
 use Rattle.figures.specs.Types.{Tokens, Account, Counted, Purse, Credit, ToCounter, ToPurse, Right, Load, Settlement, Within, Past}
 use Rattle.figures.specs.declared.loads.Total.{Total}
 use Rattle.figures.specs.declared.loads.Total.the-variants.{Sum, Over}
-use Rattle.figures.specs.Policies.{isCounted, countLimit}
+use Rattle.figures.specs.Policies.{isCounted, countLimit, purseLimitOf}
 use Rattle.figures.specs.Accounts.{counter, creditOf}
 
 -- replaced by the amount (set) or raised by it (add)
@@ -35,7 +34,7 @@ purseBy (ToPurse t) l purse = record { 0 = raised (l .flags .add) (purse .0) (t 
 -- the counter or purse that a load leaves would pass its limit
 abbrev pub overBy : Credit → Load → Account → Tokens → Bool
 overBy (ToCounter n) l held purse = ltb (countLimit (l .name .spe) .0) (raised (l .flags .add) (counter held .0) (n .0))
-overBy (ToPurse t) l held purse = ltb purseLimit (raised (l .flags .add) (purse .0) (t .0))
+overBy (ToPurse t) l held purse = ltb (purseLimitOf (l .name .spe) .0) (raised (l .flags .add) (purse .0) (t .0))
 
 -- both, or that the limit is passed
 unfoldable pub settled : Load → Account → Tokens → Settlement

@@ -3,8 +3,8 @@ use Prim.Native.Nat.{ℕ}
 use mathlib.Core.Bool.{Bool, _||_}
 use lib.Dec.{eqb}
 use Rattle.places.specs.Words.{if_then_else_}
-use Rattle.figures.specs.Limits.{livePurse, playbackPurse, deletion, liveCounted, playbackCounted, liveLimit, playbackLimit}
-use Rattle.figures.specs.Types.{TrafficKeys}
+use Rattle.figures.specs.Limits.{livePurse, playbackPurse, deletion, liveCounted, playbackCounted, liveLimit, playbackLimit, purseLimit}
+use Rattle.figures.specs.Types.{Tokens, TrafficKeys}
 
 -- for live; every other right is for playback
 unfoldable pub isLive : ℕ → Bool
@@ -29,3 +29,7 @@ isDeletion s = eqb s deletion
 -- how far a counter goes
 unfoldable pub countLimit : ℕ → TrafficKeys
 countLimit s = if eqb s liveCounted then record { 0 = liveLimit } else record { 0 = playbackLimit }
+
+-- how far the purse goes that a right of this SPE pays from
+unfoldable pub purseLimitOf : ℕ → Tokens
+purseLimitOf s = record { 0 = purseLimit }

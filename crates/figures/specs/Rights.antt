@@ -2,10 +2,10 @@
 use mathlib.Core.Bool.{Bool, false, not, _&&_, Bool·beq}
 use Rattle.places.specs.Words.{if_then_else_}
 use Rattle.figures.specs.Limits.{noSpe}
-use Rattle.figures.specs.Types.{Tokens, Timestamp, KeyId, RightName, Counted, Right, Message, WantedRight, Named, OfId, FreeRight}
+use Rattle.figures.specs.Types.{Timestamp, KeyId, RightName, Counted, Right, Message, WantedRight, Named, OfId, FreeRight}
 use Rattle.figures.specs.Names.{sameId, sameName, noId, covers, live}
 use Rattle.figures.specs.Policies.{isLive}
-use Rattle.figures.specs.Accounts.{canPay, charged}
+use Rattle.figures.specs.Accounts.{charged}
 
 -- 01, Rights: a free place always holds the same
 unfoldable pub freeRight : Right
@@ -33,10 +33,6 @@ meetsRight FreeRight r = not (r .held)
 unfoldable pub fits : Message → Timestamp → Right → Bool
 fits m replay r =
     isOf (m .id) r && covers (r .name .interval) (m .ts) && Bool·beq (isLive (r .name .spe)) (live replay (m .ts))
-
--- it fits and can pay
-unfoldable pub serves : Message → Timestamp → Tokens → Right → Bool
-serves m replay purse r = fits m replay r && canPay purse (r .account)
 
 -- after a grant that it pays for
 unfoldable pub chargedRight : Right → Right

@@ -1,7 +1,6 @@
 // What a load and a short term message say, and what a load makes of an account and a purse.
 use crate::accounts::Account;
 use crate::accounts::Credit;
-use crate::limits::PURSE_LIMIT;
 use crate::names::KeyId;
 use crate::names::RightName;
 use crate::names::Timestamp;
@@ -9,6 +8,7 @@ use crate::names::Tokens;
 use crate::names::TrafficKeys;
 use crate::policies::count_limit;
 use crate::policies::is_counted;
+use crate::policies::purse_limit;
 use crate::rights::Right;
 use places::Verdict;
 ghost use mathlib.Core.Path.{_≡_};
@@ -88,7 +88,8 @@ impl Load {
                 })
             }
             Credit::ToPurse(tokens) => {
-                let Total::Sum(sum) = summed(PURSE_LIMIT, add, purse.0, tokens.0) else {
+                let limit = purse_limit(spe);
+                let Total::Sum(sum) = summed(limit.0, add, purse.0, tokens.0) else {
                     return Settlement::Past;
                 };
                 let cost = self.cost;

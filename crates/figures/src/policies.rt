@@ -6,12 +6,14 @@ use crate::limits::LIVE_PURSE;
 use crate::limits::PLAYBACK_COUNTED;
 use crate::limits::PLAYBACK_LIMIT;
 use crate::limits::PLAYBACK_PURSE;
+use crate::limits::PURSE_LIMIT;
+use crate::names::Tokens;
 use crate::names::TrafficKeys;
 use places::Verdict;
 ghost use mathlib.Core.Path.{_≡_};
 ghost use mathlib.Core.Bool.{not};
 ghost use Rattle.places.specs.Words.{failed};
-ghost use Rattle.figures.specs.Policies.{isLive, isCounted, isPurse, holdsRight, isDeletion, countLimit};
+ghost use Rattle.figures.specs.Policies.{isLive, isCounted, isPurse, holdsRight, isDeletion, countLimit, purseLimitOf};
 
 pub fn is_live(spe: u8) -> bool
     ensures { λ r. ⌜ r ≡ isLive spe ⌝ }
@@ -56,4 +58,11 @@ pub fn count_limit(spe: u8) -> TrafficKeys
         return TrafficKeys(LIVE_LIMIT);
     }
     TrafficKeys(PLAYBACK_LIMIT)
+}
+
+// The limit of the purse that a right of the SPE pays from: all pay from the user purse.
+pub fn purse_limit(spe: u8) -> Tokens
+    ensures { λ r. ⌜ r ≡ purseLimitOf spe ⌝ }
+{
+    Tokens(PURSE_LIMIT)
 }

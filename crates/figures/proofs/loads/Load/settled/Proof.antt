@@ -35,6 +35,9 @@ returns c =
 enum-known-tokens : tie.Need-enum-known-tokens
 enum-known-tokens c = search needs
 
+purse-limit-requires : tie.Need-purse-limit-requires
+purse-limit-requires c κs = search needs
+
 summed-requires-2 : tie.Need-summed-requires-2
 summed-requires-2 c κs = search needs
 
@@ -46,8 +49,9 @@ enum-told-2 c = search needs
 
 returns-2 : tie.Need-returns-2
 returns-2 c =
-    let s = c .before .before .before .before .before .before .before .args in
-    settled-past (s .self) (s .held) (s .purse) _ (sym (c .before .before .before .before .before .before .of .ensures) ∙ c .before .before .before .before .tokens .given .1) (total-over _ _ (sym (c .before .before .summed2 .ensures) ∙ c .enum-told2 .given .1))
+    let s = c .before .before .before .before .before .before .before .before .args in
+    settled-past (s .self) (s .held) (s .purse) _ (sym (c .before .before .before .before .before .before .before .of .ensures) ∙ c .before .before .before .before .before .tokens .given .1)
+    (rw (← c .before .before .before .purse-limit .ensures) (total-over _ _ (sym (c .before .before .summed2 .ensures) ∙ c .enum-told2 .given .1)))
 
 returns-3 : tie.Need-returns-3
 returns-3 c =
@@ -59,9 +63,11 @@ returns-3 c =
 
 returns-4 : tie.Need-returns-4
 returns-4 c =
-    let s = c .before .before .before .before .before .before .before .before .before .args in
+    let s = c .before .before .before .before .before .before .before .before .before .before .args in
     let t = total-sum _ _ _ (sym (c .before .before .before .before .summed2 .ensures) ∙ c .before .before .sum2 .given .1) in
-    rw (← t .1) (settled-within (s .self) (s .held) (s .purse) _ (sym (c .before .before .before .before .before .before .before .before .of .ensures) ∙ c .before .before .before .before .before .before .tokens .given .1) (t .0))
+    rw (← t .1)
+    (settled-within (s .self) (s .held) (s .purse) _ (sym (c .before .before .before .before .before .before .before .before .before .of .ensures) ∙ c .before .before .before .before .before .before .before .tokens .given .1)
+    (rw (← c .before .before .before .before .before .purse-limit .ensures) (t .0)))
 
 pub settled-spec : {M : Type 1} → statement M
 settled-spec =
@@ -76,6 +82,7 @@ settled-spec =
     enum-told
     returns
     enum-known-tokens
+    purse-limit-requires
     summed-requires-2
     enum-known-sum-2
     enum-told-2
