@@ -1,2 +1,3 @@
 -- Laws on plain values, for the proofs of this crate and of its callers.
 pub mod Settling
+pub mod Naming

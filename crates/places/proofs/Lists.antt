@@ -113,6 +113,25 @@ module _ {A : Type 0} (p : A → Bool) (d : A) (free : p d ≡ false) where
       go (At k) g = clash (g .1) (h k)
       go Nowhere g = refl
 
+-- no place below the one found passes
+abbrev Lowest : {A : Type 0} → (A → Bool) → A → List A → Found → Type 0
+Lowest p d l (At k) = (j : ℕ) → j < k → p (getD l j d) ≡ false
+Lowest p d l Nowhere = Unit {0}
+
+module _ {A : Type 0} (p : A → Bool) (d : A) where
+  lowest-cons : (x : A) (xs : List A) (t : Bool) → p x ≡ t → (w : Found) → Lowest p d xs w → Lowest p d (x ∷ xs) (if t then At 0 else next w)
+  lowest-cons x xs true e w g = λ j h. absurd (not-suc-le-zero h)
+  lowest-cons x xs false e (At k) g = elim [ zero ↦ λ h. e | suc j ↦ λ h. g j (le-of-suc-le-suc h) ]
+  lowest-cons x xs false e Nowhere g = tt
+
+  lowest : (l : List A) → Lowest p d l (first p l)
+  unfolding all-words
+  lowest [] = tt
+  lowest (x ∷ xs) = lowest-cons x xs (p x) refl (first p xs) (lowest xs)
+
+  pub first-lowest : (l : List A) {k : ℕ} → first p l ≡ At k → (j : ℕ) → j < k → p (getD l j d) ≡ false
+  first-lowest l h = subst (Lowest p d l) h (lowest l)
+
 pub present : (w : Found) → missing w ≡ false → (j : ℕ) × (w ≡ At j)
 unfolding all-words
 present (At j) h = (j, refl)
@@ -238,7 +257,7 @@ module _ {A : Type 0} (p q : A → Bool) (x : A) (h : (y : A) → q y ≡ true �
       go (At k) g = first-set p x l k x (h _ (g .1))
       go Nowhere g = refl
 
-keep-put-all : {A : Type 0} (t : A → Bool) (d : A) (l : List A) (k : ℕ) → t (getD l k d) ≡ false → getD (put-all t d l) k d ≡ getD l k d
+pub keep-put-all : {A : Type 0} (t : A → Bool) (d : A) (l : List A) (k : ℕ) → t (getD l k d) ≡ false → getD (put-all t d l) k d ≡ getD l k d
 unfolding all-words
 keep-put-all t d [] k h = refl
 keep-put-all t d (y ∷ ys) zero h = rw h
