@@ -7,3 +7,4 @@ pub mod Rights
 pub mod Keys
 pub mod Loads
 pub mod Replies
+pub mod Opener

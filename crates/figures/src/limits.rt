@@ -28,3 +28,8 @@ pub const PURSE_LIMIT: u32 = 0x7FFFFFF;
 pub const LIVE_LIMIT: u32 = 0x3FFFFF;
 
 pub const PLAYBACK_LIMIT: u32 = 0x7FFFFF;
+
+// 01, Replies: the bytes of a reply, and the place that stands for none.
+pub const REPLY_BYTES: usize = 14;
+
+pub const NO_PLACE: usize = 0xFF;

@@ -3,12 +3,12 @@ use Prim.Native.Nat.{ℕ, zero, suc, _+_, _<_, _≤_}
 use native.Mathlib.Numerals.{add-one}
 use native.Mathlib.Omega.{arith}
 use mathlib.Core.Path.{_≡_, refl, ap, _∙_, sym}
-use mathlib.Core.Bool.{Bool, true, false}
+use mathlib.Core.Bool.{Bool, true, false, not, _&&_}
 use mathlib.Core.List.{List, [], _∷_, _++_}
 use lib.ListN.{length, getD, set, drop, take, drop-of-length-le}
 use lib.Seq.{drop-cons, take-suc, take-suc-set, take-all, getD-set-same}
 use Rattle.places.specs.Types.{Found, At, Nowhere}
-use Rattle.places.specs.Words.{next, if_then_else_, first, at, put, put-all}
+use Rattle.places.specs.Words.{next, if_then_else_, first, at, put, put-all, missing, or-else}
 
 -- a place counted from i
 abbrev pub past : ℕ → Found → Found
@@ -114,6 +114,36 @@ first-in p (x ∷ xs) k e = go (p x) (λ j. first-in p xs j) e
     go true h e = let q : 0 ≡ k = cc in omega arith
     go false h e = next-in (length xs) (first p xs) k h e
 
+pub room-in : {A : Type 0} (p q : A → Bool) (l : List A) (k : ℕ) → or-else (first p l) (first q l) ≡ At k → k < length l
+room-in p q l k e = go (first p l) (first-in p l k) e
+  where
+    go : (w : Found) → (w ≡ At k → k < length l) → or-else w (first q l) ≡ At k → k < length l
+    go (At i) h e = h e
+    go Nowhere h e = first-in q l k e
+
 pub put-same : {A : Type 0} (l : List A) (k : ℕ) (x d : A) → k < length l → at d (At k) (put (At k) x l) ≡ x
 unfolding at put
 put-same l k x d h = getD-set-same l k x d h
+
+-- ## Two searches in one walk: while one goes on, whether the other found anything is remembered
+
+module _ {A : Type 0} (p : A → Bool) where
+  -- at place i, t says whether a place before it passed
+  abbrev pub Remembered : List A → ℕ → Bool → Type 0
+  Remembered xs i t = missing (first p xs) ≡ (not t && missing (rest p i xs))
+
+  pub remembered-start : (xs : List A) → Remembered xs 0 false
+  remembered-start xs = ap missing (sym (rest-start p xs))
+
+  pub remembered-hit : (xs : List A) (i : ℕ) (t : Bool) (d : A) → i < length xs → p (getD xs i d) ≡ true → Remembered xs i t
+      → missing (first p xs) ≡ false
+  remembered-hit xs i true d h e r = r
+  remembered-hit xs i false d h e r = r ∙ ap missing (rest-hit p xs i d h e)
+
+  pub remembered-miss : (xs : List A) (i : ℕ) (t : Bool) (d : A) → i < length xs → p (getD xs i d) ≡ false → Remembered xs i t
+      → Remembered xs (i + 1) t
+  remembered-miss xs i t d h e r = rw (rest-miss p xs i d h e) r
+
+  pub remembered-end : (xs : List A) (i : ℕ) (t : Bool) → length xs ≤ i → Remembered xs i t → missing (first p xs) ≡ not t
+  remembered-end xs i true h r = r
+  remembered-end xs i false h r = r ∙ ap missing (rest-end p xs i h)

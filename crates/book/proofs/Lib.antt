@@ -1,0 +1,4 @@
+pub mod Long
+pub mod Chosen
+pub mod Storing
+pub mod Tight

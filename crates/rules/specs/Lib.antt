@@ -1,0 +1,11 @@
+pub mod Types
+pub mod Pages
+pub mod Calls
+pub mod Loads
+pub mod Deletions
+pub mod Messages
+pub mod Replies
+pub mod Rules
+pub mod Sound
+pub mod OneCall
+pub mod Opener

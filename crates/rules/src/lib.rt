@@ -1,0 +1,1 @@
+// The rules of the key book are definitions: see specs/. This crate has no code.
