@@ -1,0 +1,5 @@
+pub mod Types
+pub mod Runs
+pub mod Demand1
+pub mod Demand3
+pub mod Corollaries
