@@ -13,7 +13,9 @@ use Rattle.frames.specs.Layouts.{loadWidths, lengthWith}
 use Rattle.frames.specs.Reading.{reading}
 use Rattle.rules.specs.Pages.{Pages, emptyBook}
 use Rattle.rules.specs.Replies.{code}
-use Rattle.demands.specs.Types.{KeyId, Key, Message, LoadFrame, MessageFrame, ReportFrame, DeleteFrame, Seen, Whole, Unread}
+use Rattle.demands.specs.Types.{Book, Called, KeyId, Key, Message, LoadFrame, MessageFrame, ReportFrame, DeleteFrame, Seen, Whole, Unread}
+use Rattle.book.specs.Pages.{pages}
+use Rattle.demands.specs.Demand2.{Promised, Ran, told}
 use Rattle.demands.specs.Runs.{Call, Event, called, final, events, replies}
 
 -- ## The same but for key bytes
@@ -41,6 +43,12 @@ blind b = record { keys = map blindKey (b .keys); rights = b .rights; purse = b 
 abbrev pub KeysSteerNothing : Type 0
 KeysSteerNothing =
     (cs ds : List Call) → AlikeRuns cs ds → (replies emptyBook cs ≡ replies emptyBook ds) × (blind (final emptyBook cs) ≡ blind (final emptyBook ds))
+
+-- and so of the code: its replies, and the books that it leaves
+abbrev pub CodeKeysSteerNothing : Type 0
+CodeKeysSteerNothing =
+    (b d e f : Book) (cs ds : List Call) (rs qs : List Called) → pages b ≡ emptyBook → pages d ≡ emptyBook → AlikeRuns cs ds → Ran b cs rs e → Ran d ds qs f
+    → (map (λ r. r .reply) rs ≡ map (λ r. r .reply) qs) × (blind (pages e) ≡ blind (pages f))
 
 -- ## The key that an ID was last given, told from frames and replies only
 
@@ -76,3 +84,9 @@ abbrev pub GrantsHandOutTheKey : Type 0
 GrantsHandOutTheKey =
     (cs : List Call) (c : Call) → code ((called (final emptyBook cs) c) .reply) ≡ 0x01
     → HandsOut ((reading (c .frame)) .frame) (λ i. lastGiven i never (events emptyBook cs)) ((called (final emptyBook cs) c) .buffer)
+
+-- and so of the code, from the frames sent and the replies given
+abbrev pub CodeGrantsHandOutTheKey : Type 0
+CodeGrantsHandOutTheKey =
+    (b e : Book) (cs : List Call) (rs : List Called) → pages b ≡ emptyBook → Ran b cs rs e → (c : Call) (r : Called) (u : List ℕ) → Promised e c r u
+    → code (r .reply) ≡ 0x01 → HandsOut ((reading (c .frame)) .frame) (λ i. lastGiven i never (told cs rs)) u

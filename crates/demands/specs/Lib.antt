@@ -1,5 +1,6 @@
 pub mod Types
 pub mod Runs
 pub mod Demand1
+pub mod Demand2
 pub mod Demand3
 pub mod Corollaries

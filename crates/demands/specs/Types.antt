@@ -27,3 +27,5 @@ pub use Rattle.frames.specs.declared.Frame.the-variants.{Load as LoadFrame, Mes
 pub use Rattle.frames.specs.declared.Seen.{Seen}
 pub use Rattle.frames.specs.declared.Seen.the-variants.{Whole, Unread}
 pub use Rattle.frames.specs.declared.ReadFrame.{ReadFrame}
+pub use Rattle.book.specs.declared.Book.{Book}
+pub use Rattle.book.specs.declared.Called.{Called}
