@@ -6,3 +6,4 @@ pub mod Steers
 pub mod Handed
 pub mod OfCode
 pub mod Corollaries
+pub mod Tight

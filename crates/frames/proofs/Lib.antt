@@ -9,4 +9,4 @@ pub mod Trips
 pub mod Held
 pub mod Blind
 pub mod Theorems
-pub mod Once
+pub mod Tight

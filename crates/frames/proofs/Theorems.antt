@@ -1,4 +1,4 @@
--- The theorems on frames, stated; the files above this one in Lib.antt prove them. Those on promises stand in Once.antt. Assumes nothing.
+-- The theorems on frames, stated; the files above this one in Lib.antt prove them. Those on promises stand in Tight.antt. Assumes nothing.
 use Prim.Native.Nat.{ℕ, _+_, _<_}
 use mathlib.Core.Path.{_≡_, refl}
 use mathlib.Core.Bool.{Bool, true, false}
