@@ -89,10 +89,7 @@ impl Book {
         let id = name.id;
         let key = key_at(keys, WantedKey::WithId(id));
         let shown = self.as_held(key, place);
-        Called {
-            book: self,
-            reply: Reply::Reported(shown),
-        }
+        self.unchanged(Reply::Reported(shown))
     }
 
     pub(crate) fn delete(self, name: RightName) -> Called

@@ -21,12 +21,11 @@ use frames::reader::read;
 use places::Verdict;
 ghost use mathlib.Core.Path.{_≡_};
 ghost use mathlib.Core.Bool.{not};
-ghost use lib.ListN.{length};
 ghost use lib.Dec.{eqb};
 ghost use Rattle.places.specs.Words.{failed};
 ghost use Rattle.figures.specs.Limits.{keyBytes};
 ghost use Rattle.rules.specs.Pages.{emptyBook};
-ghost use Rattle.rules.specs.Rules.{act, call};
+ghost use Rattle.rules.specs.Rules.{call};
 ghost use Rattle.book.specs.Types.{Refused};
 ghost use Rattle.book.specs.Pages.{pages, after};
 
@@ -66,34 +65,20 @@ impl Book {
         }
     }
 
-    fn refused(self, why: Refusal) -> Called
-        ensures { λ r. ⌜ r ≡ record { book = self; reply = Refused why } ⌝ }
+    // A reply that leaves the book as it is.
+    fn unchanged(self, reply: Reply) -> Called
+        ensures { λ r. ⌜ r ≡ record { book = self; reply = reply } ⌝ }
     {
         Called {
             book: self,
-            reply: Reply::Refused(why),
+            reply: reply,
         }
     }
 
-    // A frame that was read, with the key bytes beside it.
-    fn act(self, frame: Frame, bytes: [u8; KEY_BYTES], key: &mut [u8]) -> Called
-        requires { ⌜ length (now key) ≡ keyBytes ⌝ }
-        ensures { λ r. ⌜ after r (now (key .exit)) ≡ act (pages self) (now (key .entry)) frame bytes ⌝ }
+    fn refused(self, why: Refusal) -> Called
+        ensures { λ r. ⌜ r ≡ record { book = self; reply = Refused why } ⌝ }
     {
-        match frame {
-            Frame::Load(load) => {
-                return self.load(load, bytes);
-            }
-            Frame::Message(message) => {
-                return self.message(message, key);
-            }
-            Frame::Report(name) => {
-                return self.report(name);
-            }
-            Frame::Delete(name) => {
-                return self.delete(name);
-            }
-        }
+        self.unchanged(Reply::Refused(why))
     }
 
     // A byte string and the lent key buffer.
@@ -107,12 +92,23 @@ impl Book {
         let seen = read.frame;
         let bytes = read.key;
         match seen {
-            Seen::Whole(whole) => {
-                return self.act(whole, bytes, key);
-            }
             Seen::Unread(why) => {
                 return self.refused(why);
             }
+            Seen::Whole(whole) => match whole {
+                Frame::Load(load) => {
+                    return self.load(load, bytes);
+                }
+                Frame::Message(message) => {
+                    return self.message(message, key);
+                }
+                Frame::Report(name) => {
+                    return self.report(name);
+                }
+                Frame::Delete(name) => {
+                    return self.delete(name);
+                }
+            },
         }
     }
 }

@@ -54,17 +54,11 @@ impl Book {
         match right {
             Found::At(place) => {
                 let shown = self.as_held(key, place);
-                Called {
-                    book: self,
-                    reply: Reply::OverHeld(shown),
-                }
+                return self.unchanged(Reply::OverHeld(shown));
             }
             Found::Nowhere => {
                 let purse = self.purse;
-                Called {
-                    book: self,
-                    reply: Reply::OverNew(purse),
-                }
+                return self.unchanged(Reply::OverNew(purse));
             }
         }
     }

@@ -40,6 +40,10 @@ impl KeyId {
     pub fn same(self, other: KeyId) -> bool
         ensures { λ r. ⌜ r ≡ sameId self other ⌝ }
     {
+        // The number tells most IDs apart, so that a walk is short.
+        if self.number != other.number {
+            return false;
+        }
         (self.domain.0 == other.domain.0)
             & (self.domain.1 == other.domain.1)
             & (self.domain.2 == other.domain.2)
@@ -52,7 +56,11 @@ impl RightName {
     pub fn same(self, other: RightName) -> bool
         ensures { λ r. ⌜ r ≡ sameName self other ⌝ }
     {
-        self.id.same(other.id)
+        let same_id = self.id.same(other.id);
+        if !same_id {
+            return false;
+        }
+        same_id
             & (self.interval.low.0 == other.interval.low.0)
             & (self.interval.high.0 == other.interval.high.0)
             & (self.spe == other.spe)

@@ -60,8 +60,12 @@ impl Right {
     pub fn fits(self, message: Message, replay: Timestamp) -> bool
         ensures { λ r. ⌜ r ≡ fits message replay self ⌝ }
     {
+        let same_id = self.name.id.same(message.id);
+        if !same_id {
+            return false;
+        }
         self.held
-            & self.name.id.same(message.id)
+            & same_id
             & self.name.interval.covers(message.ts)
             & (is_live(self.name.spe) == message.ts.live(replay))
     }

@@ -12,7 +12,7 @@ use Rattle.figures.specs.Limits.{keyBytes}
 use Rattle.frames.specs.Types.{Frame, LoadFrame, MessageFrame, ReportFrame, DeleteFrame, Load, Count, Unwritten, BufferLength}
 use Rattle.frames.specs.Numbers.{join, total}
 use Rattle.frames.specs.Layouts.{loadWidths, widthsOf, hasKey, wholeLength}
-use Rattle.frames.specs.Writing.{loadNumbers, numbersOf, writtenAs, outcome, writing}
+use Rattle.frames.specs.Writing.{loadNumbers, numbersOf, writtenAs, outcome, written, writing}
 use Rattle.frames.proofs.Widths.{length-join}
 use Rattle.frames.proofs.Stores.{sets-front}
 
@@ -52,10 +52,12 @@ module _ (f : Frame) (k u : List ℕ) where
   unfolding writing
   too-short h = rw (lt-ltb (length u) (wholeLength f) h)
 
-  pub long-enough : length k ≡ keyBytes → wholeLength f ≤ length u → outcome (Count (wholeLength f)) (sets u 0 (writtenAs f k)) ≡ writing f k u
+  pub has-room : wholeLength f ≤ length u → writing f k u ≡ written f k u
   unfolding writing
+  has-room h = rw (le-ltb (length u) (wholeLength f) h)
+
+  pub long-enough : length k ≡ keyBytes → wholeLength f ≤ length u → outcome (Count (wholeLength f)) (sets u 0 (writtenAs f k)) ≡ writing f k u
   long-enough e h =
       let n = written-length f k e in
       let m : length (writtenAs f k) ≤ length u = omega arith in
-      rw (le-ltb (length u) (wholeLength f) h)
-      (ap (outcome (Count (wholeLength f))) (sets-front (writtenAs f k) u m ∙ ap (λ (i : ℕ). writtenAs f k ++ drop i u) n))
+      ap (outcome (Count (wholeLength f))) (sets-front (writtenAs f k) u m ∙ ap (λ (i : ℕ). writtenAs f k ++ drop i u) n) ∙ sym (has-room h)

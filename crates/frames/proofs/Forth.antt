@@ -9,6 +9,7 @@ use lib.Dec.{eqb}
 use borrow.Author.Tests.{ltb-true}
 use native.Mathlib.Omega.{arith}
 use Rattle.places.specs.Words.{if_then_else_}
+use Rattle.places.proofs.Tests.{if-elim}
 use Rattle.figures.specs.Limits.{keyBytes}
 use Rattle.figures.specs.Keys.{zeros}
 use Rattle.frames.specs.Types.{Frame, LoadFrame, Seen, Whole, Unread, ReadFrame}
@@ -24,10 +25,6 @@ use Rattle.frames.proofs.Tests.{load-passes, message-passes, right-pass
 abbrev Back : Seen → List ℕ → List ℕ → Type 0
 Back (Whole f) k s = writtenAs f k ≡ s
 Back (Unread r) k s = Unit {0}
-
-back-if : (s k : List ℕ) (t : Bool) (x y : Seen) → (t ≡ true → Back x k s) → (t ≡ false → Back y k s) → Back (if t then x else y) k s
-back-if s k true x y p q = p refl
-back-if s k false x y p q = q refl
 
 flags-again : (b : ℕ) → spareClear b ≡ true → flagsByte (flagsFrom b) ≡ b
 flags-again zero h = refl
@@ -70,13 +67,16 @@ module _ (s : List ℕ) (b : Bytes s) where
       let n : nameNumbers k (nameFrom (split rightWidths 0 s)) ≡ split rightWidths 0 s = rw (p .kind) in
       ap (join rightWidths) n ∙ join-split-all rightWidths s b (p .long)
 
+  AsRead : Seen → Type 0
+  AsRead x = Back x (keyBeside s) s
+
   forth : Back (seen s) (keyBeside s) s
-  unfolding writtenAs seen
+  unfolding writtenAs seen AsRead
   forth =
-      back-if s (keyBeside s) (isLoad s) _ _ load-forth
-      (λ l. back-if s (keyBeside s) (isMessage s) _ _ message-forth
-      (λ m. back-if s (keyBeside s) (isRight reportKind s) _ _ (right-forth reportKind)
-      (λ r. back-if s (keyBeside s) (isRight deleteKind s) _ _ (right-forth deleteKind) (λ d. tt))))
+      if-elim AsRead (isLoad s) _ _ load-forth
+      (λ l. if-elim AsRead (isMessage s) _ _ message-forth
+      (λ m. if-elim AsRead (isRight reportKind s) _ _ (right-forth reportKind)
+      (λ r. if-elim AsRead (isRight deleteKind s) _ _ (right-forth deleteKind) (λ d. tt))))
 
 pub written-read : (s : List ℕ) (f : Frame) (k : List ℕ) → Bytes s → reading s ≡ withKey f k → writtenAs f k ≡ s
 written-read s f k b e = subst (λ (r : ReadFrame). Back (r .frame) (r .key) s) e (forth s b)

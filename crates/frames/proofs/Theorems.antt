@@ -1,5 +1,5 @@
 -- The theorems on frames, stated; the files above this one in Lib.antt prove them. Those on promises stand in Tight.antt. Assumes nothing.
-use Prim.Native.Nat.{ℕ, _+_, _<_}
+use Prim.Native.Nat.{ℕ, _+_, _≤_, _<_}
 use mathlib.Core.Path.{_≡_, refl}
 use mathlib.Core.Bool.{Bool, true, false}
 use mathlib.Core.List.{List, [], _∷_}
@@ -23,6 +23,7 @@ use Rattle.frames.proofs.Back as Back
 use Rattle.frames.proofs.Forth as Forth
 use Rattle.frames.proofs.Blind as Blind
 use Rattle.frames.proofs.Held.{held-fits}
+use Rattle.frames.proofs.Answers.{written-length, has-room}
 
 -- where each field of a row starts
 abbrev starts : ℕ → List ℕ → List ℕ
@@ -47,6 +48,10 @@ there-and-back f vs h k e = Back.read-written f k (held-fits f vs h) e
 -- 01, Frames: what is read is written as it stood, for every string of bytes
 pub back-and-there : (s : List ℕ) → Bytes s → (f : Frame) (k : List ℕ) → reading s ≡ withKey f k → writtenAs f k ≡ s
 back-and-there s b f k e = Forth.written-read s f k b e
+
+-- 01, Frames: a written frame has the whole length of the table
+pub whole-length : (f : Frame) (k : List ℕ) → length k ≡ keyBytes → length (writtenAs f k) ≡ wholeLength f
+whole-length f k e = written-length f k e
 
 -- 01, Frames: only the key stands after a load's fields
 pub key-apart : (s t : List ℕ) → length s ≡ length t → take (total loadWidths) s ≡ take (total loadWidths) t → seen s ≡ seen t
@@ -85,6 +90,9 @@ refused-by : (f : Frame) (k u : List ℕ) (t : Bool) (x : Refusal) → (if t the
     → (x ≡ BufferLength) × (t ≡ true) × ((if t then unwritten u else written f k u) .buffer ≡ u)
 refused-by f k u true x e = (cc, refl, refl)
 refused-by f k u false x e = let z : _≡_ {A = ℕ} 0 1 = cc in absurd (omega arith)
+
+pub wrote : (f : Frame) (k u : List ℕ) → wholeLength f ≤ length u → writing f k u ≡ written f k u
+wrote f k u h = has-room f k u h
 
 pub refused-write : (f : Frame) (k u : List ℕ) (x : Refusal) → writing f k u .answer ≡ Unwritten x → RefusedWrite f k u x
 unfolding writing

@@ -1,5 +1,4 @@
--- Each promise of a public call has one outcome: two that it allows coincide, the contents of lent memory with them. It is stated of the
--- promises themselves. Assumes nothing.
+-- Any two outcomes that a public call's own promise allows coincide, lent memory too: each is the one that the definition gives. Assumes nothing.
 use Prim.Native.Nat.{ℕ}
 use mathlib.Core.Path.{_≡_, sym, ap, _∙_}
 use mathlib.Core.List.{List}

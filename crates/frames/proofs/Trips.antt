@@ -5,7 +5,6 @@ use mathlib.Core.Bool.{Bool, true, false}
 use mathlib.Core.List.{List, [], _∷_, _++_}
 use lib.ListN.{length, take, drop, getD}
 use lib.Seq.{take-at}
-use borrow.Author.Tests.{le-ltb}
 use native.Mathlib.Omega.{arith}
 use Rattle.figures.specs.Limits.{keyBytes}
 use Rattle.frames.specs.Types.{Frame, LoadFrame, MessageFrame, ReportFrame, DeleteFrame, ReadFrame, Whole, Unread, Refusal, Written, Count, Unwritten}
@@ -13,7 +12,7 @@ use Rattle.frames.specs.Layouts.{loadWidths, lengthWith, wholeLength}
 use Rattle.frames.specs.Reading.{seen, reading}
 use Rattle.frames.specs.Writing.{Writing, writtenAs, outcome, written, writing}
 use Rattle.frames.specs.RoundTrips.{Bytes, Fits, withKey, keyBack, copying}
-use Rattle.frames.proofs.Answers.{written-length}
+use Rattle.frames.proofs.Answers.{written-length, has-room}
 use Rattle.frames.proofs.Back.{read-written}
 use Rattle.frames.proofs.Forth.{written-read}
 
@@ -36,8 +35,7 @@ all-bytes (b ∷ bs) h = (h 0, all-bytes bs (λ i. h (suc i)))
 -- where there is room the frame is written, and reads back from as many bytes as were answered
 module _ (f : Frame) (k u : List ℕ) (e : length k ≡ keyBytes) (h : wholeLength f ≤ length u) (r : Written) (v : List ℕ) (o : outcome r v ≡ writing f k u) where
   wrote : outcome r v ≡ written f k u
-  unfolding writing
-  wrote = o ∙ rw (le-ltb (length u) (wholeLength f) h)
+  wrote = o ∙ has-room f k u h
 
   answered : r ≡ Count (wholeLength f)
   answered = ap (λ (x : Writing). x .answer) wrote

@@ -11,11 +11,13 @@ use Rattle.frames.specs.Types.{KeyId, RightName, Flags, Load, Message, U
 use Rattle.frames.specs.Numbers.{field, split, total}
 use Rattle.frames.specs.Layouts.{loadKind, messageKind, reportKind, deleteKind, messageWidths, rightWidths, loadWidths, lengthWith, bit}
 
--- ## The fields, from the numbers of a frame in the table's order, the kind first
+-- ## The fields, from the numbers of a frame in the table's order, number 0 being the kind
 
+-- 01, Frames: key domain, key group, key number
 abbrev pub idFrom : List ℕ → KeyId
 idFrom ns = record { domain = record { 0 = getD ns 1 0; 1 = getD ns 2 0; 2 = getD ns 3 0 }; group = getD ns 4 0; number = getD ns 5 0 }
 
+-- 01, Rights: a right is named by ID, TS low, TS high and SPE
 abbrev pub nameFrom : List ℕ → RightName
 nameFrom ns = record { id = idFrom ns; interval = record { low = record { 0 = getD ns 6 0 }; high = record { 0 = getD ns 7 0 } }; spe = getD ns 8 0 }
 
@@ -23,15 +25,17 @@ nameFrom ns = record { id = idFrom ns; interval = record { low = record { 0 = ge
 abbrev pub flagsFrom : ℕ → Flags
 flagsFrom b = record { add = bit 0 b; key = bit 1 b }
 
+-- 01, Frames, kind 01: name, flags, amount, cost
 abbrev pub loadFrom : List ℕ → Load
 loadFrom ns = record { name = nameFrom ns; flags = flagsFrom (getD ns 9 0); amount = getD ns 10 0; cost = record { 0 = getD ns 11 0 } }
 
--- 01, Frames: integrity mark 01 is checked good, 00 bad
+-- 01, Frames, kind 02: ID, TS, integrity mark, 01 checked good
 abbrev pub messageFrom : List ℕ → Message
 messageFrom ns = record { id = idFrom ns; ts = record { 0 = getD ns 6 0 }; good = eqb (getD ns 7 0) 1 }
 
--- ## The tests; byte 0 of the empty string reads 0, which is no kind
+-- ## The tests: kind, length, flag bits, length against flag bit 1, mark
 
+-- 01, Frames: byte 0 is the kind; that of the empty string reads 0, which is none
 abbrev pub isKind : ℕ → List ℕ → Bool
 isKind k s = eqb (field s 0 1) k
 
@@ -39,31 +43,32 @@ isKind k s = eqb (field s 0 1) k
 abbrev pub spareClear : ℕ → Bool
 spareClear b = ltb b 4
 
--- 01, Frames: the integrity mark is 01 or 00
+-- 01, Frames: the integrity mark is 01 (checked good) or 00 (bad)
 abbrev pub isMark : ℕ → Bool
 isMark b = ltb b 2
 
+-- 01, Frames: where a load has its flags, and a message its mark
 abbrev pub flagsIn : List ℕ → ℕ
 flagsIn s = getD (split loadWidths 0 s) 9 0
 
 abbrev pub markIn : List ℕ → ℕ
 markIn s = getD (split messageWidths 0 s) 7 0
 
--- kind, flag bits, and the length that flag bit 1 asks for
+-- 01, Frames, kind 01: 26 bytes, or 42 where flag bit 1 is set; no flag but bits 0 and 1
 unfoldable pub isLoad : List ℕ → Bool
 isLoad s = isKind loadKind s && spareClear (flagsIn s) && eqb (length s) (lengthWith loadWidths (bit 1 (flagsIn s)))
 
--- kind, length, mark
+-- 01, Frames, kind 02
 unfoldable pub isMessage : List ℕ → Bool
 isMessage s = isKind messageKind s && eqb (length s) (total messageWidths) && isMark (markIn s)
 
--- kind, length
+-- 01, Frames, kinds 03 and 04
 unfoldable pub isRight : ℕ → List ℕ → Bool
 isRight k s = isKind k s && eqb (length s) (total rightWidths)
 
 -- ## The answer
 
--- 01, Replies, 11: the reader's tests fail
+-- 01, Frames: one of four kinds; 01, Replies, 11, where the reader's tests fail
 unfoldable pub seen : List ℕ → Seen
 seen s =
     if isLoad s then Whole (LoadFrame (loadFrom (split loadWidths 0 s)))
@@ -72,9 +77,14 @@ seen s =
     else if isRight deleteKind s then Whole (DeleteFrame (nameFrom (split rightWidths 0 s)))
     else Unread Unreadable
 
+-- 01, Frames: a load whose flag bit 1 is set
+abbrev pub keyPresent : List ℕ → Bool
+keyPresent s = isLoad s && bit 1 (flagsIn s)
+
 -- 01, Frames: sixteen zero bytes where no key is present, or the frame is refused
 unfoldable pub keyBeside : List ℕ → List ℕ
-keyBeside s = if isLoad s && bit 1 (flagsIn s) then take keyBytes (drop (total loadWidths) s) else zeros
+keyBeside s = if keyPresent s then take keyBytes (drop (total loadWidths) s) else zeros
 
+-- 01, Frames: a frame, and the sixteen key bytes beside it
 abbrev pub reading : List ℕ → ReadFrame
 reading s = record { frame = seen s; key = keyBeside s }

@@ -7,8 +7,8 @@ use Rattle.places.specs.Words.{if_then_else_}
 use Rattle.figures.specs.Keys.{zeros}
 use Rattle.frames.specs.Types.{Frame, ReadFrame, Seen, Whole, Unread, Count, Unwritten}
 use Rattle.frames.specs.Layouts.{widthsOf, hasKey}
-use Rattle.frames.specs.Reading.{seen}
-use Rattle.frames.specs.Writing.{numbersOf, Writing, outcome, unwritten}
+use Rattle.frames.specs.Reading.{isLoad, isMessage, isRight, seen, keyBeside}
+use Rattle.frames.specs.Writing.{numbersOf, writtenAs, Writing, outcome, unwritten, writing}
 
 -- every element is a byte
 abbrev pub Bytes : List ℕ → Type 0
@@ -41,3 +41,8 @@ copied (Unread r) s u = outcome (Unwritten r) u
 
 unfoldable pub copying : List ℕ → List ℕ → Writing
 copying s u = copied (seen s) s u
+
+-- `unfolding all-frames` opens every definition of this crate that is shut
+unfoldable pub all-frames : Type 0
+unfolding isLoad isMessage isRight seen keyBeside writtenAs writing copying
+all-frames = Unit {0}

@@ -40,7 +40,7 @@ ghost use lib.ListN.{length, take, drop};
 ghost use Rattle.figures.specs.Limits.{keyBytes};
 ghost use Rattle.frames.specs.Numbers.{field, split, total};
 ghost use Rattle.frames.specs.Layouts.{idWidths, messageWidths, rightWidths, loadWidths};
-ghost use Rattle.frames.specs.Reading.{idFrom, nameFrom, flagsFrom, loadFrom, messageFrom, isKind, isLoad, isMessage, isRight, seen, keyBeside, reading};
+ghost use Rattle.frames.specs.Reading.{idFrom, nameFrom, flagsFrom, loadFrom, messageFrom, isKind, isLoad, isMessage, isRight, seen, keyPresent, keyBeside, reading};
 
 // The byte at a place; 0 past the end, which is no kind.
 fn field1(bytes: &[u8], at: usize) -> u8
@@ -182,11 +182,17 @@ fn seen(bytes: &[u8]) -> Seen
     Seen::Unread(Refusal::Unreadable)
 }
 
+fn key_present(bytes: &[u8]) -> bool
+    ensures { λ r. ⌜ r ≡ keyPresent (now (bytes .entry)) ⌝ }
+{
+    is_load(bytes) & flags_from(field1(bytes, FLAGS_AT)).key
+}
+
 // Zeros where no key is present, or the frame is refused.
 fn key_beside(bytes: &[u8]) -> [u8; KEY_BYTES]
     ensures { λ r. ⌜ r ≡ keyBeside (now (bytes .entry)) ⌝ }
 {
-    if is_load(bytes) & flags_from(field1(bytes, FLAGS_AT)).key {
+    if key_present(bytes) {
         return key_at(bytes);
     }
     [0; KEY_BYTES]

@@ -25,6 +25,7 @@ pub fn written_and_read(frame: Frame, key: [u8; KEY_BYTES]) -> ReadFrame
     }
 }
 
+// A string that reads as a frame is written again as it stood.
 pub fn read_and_written(bytes: &[u8], buffer: &mut [u8]) -> Written
     ensures { λ r. ⌜ outcome r (now (buffer .exit)) ≡ copying (now (bytes .entry)) (now (buffer .entry)) ⌝ }
 {

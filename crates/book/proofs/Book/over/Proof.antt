@@ -10,15 +10,30 @@ enum-known-right c = search needs
 as-held-requires : tie.Need-as-held-requires
 as-held-requires c κs = search needs
 
+unchanged-requires : tie.Need-unchanged-requires
+unchanged-requires c κs = search needs
+
+returns : tie.Need-returns
+returns c = rw (c .unchanged .ensures, c .before .as-held .ensures, c .before .before .before .right .given .1)
+
 enum-told : tie.Need-enum-told
 enum-told c = search needs
 
-returns : tie.Need-returns
-returns c = rw (c .as-held .ensures, c .before .before .right .given .1)
+unchanged-requires-2 : tie.Need-unchanged-requires-2
+unchanged-requires-2 c κs = search needs
 
 returns-2 : tie.Need-returns-2
 unfolding userPurse
-returns-2 c = rw (c .before .enum-told .given .1)
+returns-2 c = rw (c .unchanged2 .ensures, c .before .before .enum-told .given .1)
 
 pub over-spec : {M : Type 1} → statement M
-over-spec = tie.close (tie.spec enum-known-right as-held-requires enum-told returns returns-2)
+over-spec =
+    tie.close
+    (tie.spec
+    enum-known-right
+    as-held-requires
+    unchanged-requires
+    returns
+    enum-told
+    unchanged-requires-2
+    returns-2)

@@ -53,11 +53,14 @@ key-at-requires c κs = search needs
 as-held-requires : tie.Need-as-held-requires
 as-held-requires c κs = search needs
 
+unchanged-requires : tie.Need-unchanged-requires
+unchanged-requires c κs = search needs
+
 returns-3 : tie.Need-returns-3
 unfolding report reportRefusals reportable keyAt rightAt
 returns-3 c =
-    λ u. rw (c .as-held .ensures, c .before .key-at .ensures, sym (c .before .before .before .before .before .before .before .right-at .ensures) ∙ c .before .before .before .before .before .place .given .1)
-    (passed _ u _ _ (sym (c .before .before .before .before .before .before .before .before .before .before .before .policy .ensures) ∙ ap failed (c .before .before .before .before .before .before .before .before .before .enum-told .given .1), (refl, tt)))
+    λ u. rw (c .unchanged .ensures, c .before .as-held .ensures, c .before .before .key-at .ensures, sym (c .before .before .before .before .before .before .before .before .right-at .ensures) ∙ c .before .before .before .before .before .before .place .given .1)
+    (passed _ u _ _ (sym (c .before .before .before .before .before .before .before .before .before .before .before .before .policy .ensures) ∙ ap failed (c .before .before .before .before .before .before .before .before .before .before .enum-told .given .1), (refl, tt)))
 
 pub report-spec : {M : Type 1} → statement M
 report-spec =
@@ -75,4 +78,5 @@ report-spec =
     returns-2
     key-at-requires
     as-held-requires
+    unchanged-requires
     returns-3)

@@ -7,7 +7,7 @@ field1-requires : tie.Need-field1-requires
 field1-requires c κs = search needs
 
 returns : tie.Need-returns
-returns c = cc
+returns c = rw (c .field1 .ensures)
 
 pub is-kind-spec : {M : Type 1} → statement M
 is-kind-spec = tie.close (tie.spec field1-requires returns)

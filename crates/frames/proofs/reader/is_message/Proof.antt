@@ -12,7 +12,7 @@ field1-requires c κs = search needs
 
 returns : tie.Need-returns
 unfolding isMessage
-returns c = cc
+returns c = rw (c .field1 .ensures, c .before .is-kind .ensures)
 
 pub is-message-spec : {M : Type 1} → statement M
 is-message-spec = tie.close (tie.spec is-kind-requires field1-requires returns)

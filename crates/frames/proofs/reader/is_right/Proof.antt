@@ -9,7 +9,7 @@ is-kind-requires c κs = search needs
 
 returns : tie.Need-returns
 unfolding isRight
-returns c = cc
+returns c = rw (c .is-kind .ensures)
 
 pub is-right-spec : {M : Type 1} → statement M
 is-right-spec = tie.close (tie.spec is-kind-requires returns)
