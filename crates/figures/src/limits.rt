@@ -33,3 +33,9 @@ pub const PLAYBACK_LIMIT: u32 = 0x7FFFFF;
 pub const REPLY_BYTES: usize = 14;
 
 pub const NO_PLACE: usize = 0xFF;
+
+// 01, Frames: the longest frame, in bytes.
+pub const FRAME_BYTES: usize = 42;
+
+// 01, The line program: the longest line, in digits.
+pub const LINE_DIGITS: usize = 84;
