@@ -1,11 +1,13 @@
 -- Cases that P1 to P12 cannot tell apart, worked out by hand from 01 and computed like those. Assumes nothing.
-use Prim.Native.Nat.{ℕ, zero, suc, _+_}
+use Prim.Native.Nat.{ℕ, zero, suc, _+_, _-_}
 use mathlib.Core.Path.{_≡_, refl}
 use mathlib.Core.List.{List, [], _∷_, _++_, map}
 use lib.ListN.{replicate}
-use Rattle.rules.specs.Pages.{emptyBook}
+use Rattle.figures.specs.Limits.{keyPlaces, rightPlaces}
+use Rattle.figures.specs.Keys.{zeros}
+use Rattle.rules.specs.Pages.{Pages, blank, emptyBook}
 use Rattle.rules.specs.Opener.{all-rules}
-use Rattle.rules.proofs.Rows.{hex, id, key, noKey, Sent, send, buffer, lending, load, message, report, delete, erase, Seen, reply, granted, loaded, reported, deleted, overHeld, overNew, refused, bookAfter, Row, row, played}
+use Rattle.rules.proofs.Rows.{hex, id, key, noKey, Sent, send, buffer, lending, load, message, report, delete, erase, Seen, reply, granted, loaded, reported, deleted, overHeld, overNew, refused, bookAfter, Row, row, playedOn, played}
 
 -- ## Calls that many rows begin with; all rights are of TS 100 to 200 where no interval is given
 
@@ -228,33 +230,53 @@ abbrev keys : ℕ → List Sent → List Sent
 keys zero then = then
 keys (suc n) then = keys n (load (id n) 100 200 0x0C 0x02 1 0 (key n) ∷ then)
 
+-- a book of two key places and four right places: the rules do not know how many there are
+abbrev small : Pages
+small = blank (record { keys = 2; rights = 4 })
+
 unfoldable pub full : List Row
 full =
-    row "the 32nd right" (rights 32 []) (loaded 31 1 0 0)
-    ∷ row "the 33rd right gets 16" (rights 33 []) (refused 0x16)
-    ∷ row "after a deletion it takes the freed place" (rights 32 (delete (id 2) 7 1000 0x0C ∷ right 32 ∷ [])) (loaded 7 1 0 0)
-    ∷ row "rights full, a held one is loaded" (rights 32 (load (id 2) 7 1000 0x0C 0x01 4 0 noKey ∷ [])) (loaded 7 5 0 0)
-    ∷ row "16, rights full and keys free" (rights 32 (other 5 ∷ [])) (refused 0x16)
-    ∷ row "15 before 16" (rights 32 (load (id 3) 100 200 0x0C 0x00 5 0 noKey ∷ [])) (refused 0x15)
-    ∷ row "16 before 17" (rights 32 (playback 8388608 ∷ [])) (refused 0x16)
-    ∷ row "16 stores no key" (rights 32 (load (id 2) 100 200 0x0D 0x02 5 0 (key 16) ∷ tell 1000 ∷ [])) (granted 0 0 0 1000 (key 0))
-    ∷ row "the 16th key" (keys 16 []) (loaded 15 1 0 0)
-    ∷ row "16, keys full and rights free" (keys 17 []) (refused 0x16)
-    ∷ row "keys full, another right of a held one" (keys 16 (wider 7 ∷ [])) (loaded 16 7 0 0)
-    ∷ row "16 before 17, keys full" (keys 16 (load (id 16) 100 200 0x0C 0x02 4194304 0 (key 16) ∷ [])) (refused 0x16)
-    ∷ row "keys full, one freed by kind 04" (keys 16 (delete (id 5) 100 200 0x0C ∷ load (id 16) 100 200 0x0C 0x02 1 0 (key 16) ∷ [])) (loaded 5 1 0 0)
-    ∷ row "keys full, one freed by 0A" (keys 16 (erase (id 5) ∷ load (id 16) 100 200 0x0C 0x02 1 0 (key 16) ∷ message (id 16) 150 0x01 ∷ [])) (granted 5 0 0 150 (key 16))
+    row "the last right place" (rights 4 []) (loaded 3 1 0 0)
+    ∷ row "one right more gets 16" (rights 5 []) (refused 0x16)
+    ∷ row "rights full, one freed by kind 04" (rights 4 (delete (id 2) 1 1000 0x0C ∷ right 4 ∷ [])) (loaded 1 1 0 0)
+    ∷ row "rights full, a held one is loaded" (rights 4 (load (id 2) 1 1000 0x0C 0x01 4 0 noKey ∷ [])) (loaded 1 5 0 0)
+    ∷ row "16, rights full and keys free" (rights 4 (other 5 ∷ [])) (refused 0x16)
+    ∷ row "15 before 16" (rights 4 (load (id 3) 100 200 0x0C 0x00 5 0 noKey ∷ [])) (refused 0x15)
+    ∷ row "16 before 17" (rights 4 (playback 8388608 ∷ [])) (refused 0x16)
+    ∷ row "16 stores no key" (rights 4 (load (id 2) 100 200 0x0D 0x02 5 0 (key 16) ∷ tell 1000 ∷ [])) (granted 0 0 0 1000 (key 0))
+    ∷ row "the last key place" (keys 2 []) (loaded 1 1 0 0)
+    ∷ row "16, keys full and rights free" (keys 3 []) (refused 0x16)
+    ∷ row "keys full, another right of a held one" (keys 2 (load (id 1) 90 210 0x0C 0x00 7 0 noKey ∷ [])) (loaded 2 7 0 0)
+    ∷ row "16 before 17, keys full" (keys 2 (load (id 2) 100 200 0x0C 0x02 4194304 0 (key 16) ∷ [])) (refused 0x16)
+    ∷ row "keys full, one freed by kind 04" (keys 2 (delete (id 1) 100 200 0x0C ∷ load (id 2) 100 200 0x0C 0x02 1 0 (key 16) ∷ [])) (loaded 1 1 0 0)
+    ∷ row "keys full, one freed by 0A" (keys 2 (erase (id 1) ∷ load (id 2) 100 200 0x0C 0x02 1 0 (key 16) ∷ message (id 2) 150 0x01 ∷ [])) (granted 1 0 0 150 (key 16))
+    ∷ []
+
+-- 01, Cases at the edges, at the book's own size
+unfoldable pub ownSize : List Row
+ownSize =
+    row "the 33rd right gets 16" (rights (suc rightPlaces) []) (refused 0x16)
+    ∷ row "after a deletion it takes the freed place" (rights rightPlaces (delete (id 2) 7 1000 0x0C ∷ right rightPlaces ∷ [])) (loaded 7 1 0 0)
+    ∷ row "the 17th key gets 16" (keys (suc keyPlaces) []) (refused 0x16)
     ∷ []
 
 -- ## All of them
 
 unfoldable pub table : List Row
-unfolding messages loads deletions refusals full
-table = messages ++ loads ++ deletions ++ refusals ++ full
+unfolding messages loads deletions refusals
+table = messages ++ loads ++ deletions ++ refusals
 
 pub beyond : map played table ≡ table
 unfolding all-rules table
 beyond = refl
+
+pub when-full : map (λ r. playedOn small r) full ≡ full
+unfolding all-rules full
+when-full = refl
+
+pub at-own-size : map played ownSize ≡ ownSize
+unfolding all-rules ownSize
+at-own-size = refl
 
 -- ## Free places, which no reply shows
 
@@ -274,6 +296,6 @@ unfolding all-rules emptied
 free-again = refl
 
 -- and in the empty book the key bytes are zero
-pub free-bytes : map (λ k. k .bytes) (emptyBook .keys) ≡ replicate 16 (replicate 16 0)
+pub free-bytes : map (λ k. k .bytes) (emptyBook .keys) ≡ replicate keyPlaces zeros
 unfolding all-rules
 free-bytes = refl

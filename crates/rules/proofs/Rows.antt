@@ -142,7 +142,7 @@ lastOf x (y ∷ ys) = lastOf y ys
 
 -- ## Rows
 
--- calls on the empty book, and what is seen of the last
+-- calls, and what is seen of the last
 pub record Row : Type 0 where
   pub name : String
   pub sent : List Sent
@@ -151,6 +151,9 @@ pub record Row : Type 0 where
 abbrev pub row : String → List Sent → Seen → Row
 row n s e = record { name = n; sent = s; expected = e }
 
--- the same calls, and what the rules let be seen of the last: a row is right where it is the row itself
+-- the same calls on a book, and what the rules let be seen of the last: a row is right where it is the row itself
+abbrev pub playedOn : Pages → Row → Row
+playedOn b r = row (r .name) (r .sent) (lastOf (record { reply = []; buffer = [] }) (allSeen b (r .sent)))
+
 abbrev pub played : Row → Row
-played r = row (r .name) (r .sent) (lastOf (record { reply = []; buffer = [] }) (allSeen emptyBook (r .sent)))
+played r = playedOn emptyBook r

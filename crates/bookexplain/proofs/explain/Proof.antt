@@ -1,4 +1,4 @@
--- `explain` is safe: the digits are the front of a line. Assumes nothing.
+-- `explain` is safe: the digits are the front of a line. Assumes only what libc and os declare.
 use mathlib.Core.Path.{_≡_, sym}
 use native.Mathlib.Omega.{arith}
 use lib.ListN.{length}

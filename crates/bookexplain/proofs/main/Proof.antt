@@ -1,4 +1,4 @@
--- `main` ends: the turns fall. Assumes nothing.
+-- `main` ends: the turns fall. Assumes only what libc and os declare.
 use borrow.Author.Needs.{needs}
 use Rattle.bookexplain.proofs.main.Statement.{statement}
 use Rattle.bookexplain.proofs.main.Tie as tie

@@ -1,4 +1,4 @@
--- `answer` is safe and ends: what `feed` promises of its counts, and that it gets on. Assumes nothing.
+-- `answer` is safe and ends: what `feed` promises of its counts, and that it gets on. Assumes only what libc and os declare.
 use mathlib.Core.Path.{_≡_}
 use Prim.Native.Nat.{_-_, _≤_}
 use native.Mathlib.Omega.{arith}

@@ -1,4 +1,4 @@
--- `pump` is safe and ends: the turns fall. Assumes nothing.
+-- `pump` is safe and ends: the turns fall. Assumes only what libc and os declare.
 use mathlib.Core.Path.{_≡_}
 use borrow.Author.Needs.{needs}
 use lib.ListN.{length}

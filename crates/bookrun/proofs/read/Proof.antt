@@ -1,4 +1,4 @@
--- `read` is safe and ends: the tries fall. Assumes nothing.
+-- `read` is safe and ends: the tries fall. Assumes only what libc and os declare.
 use borrow.Author.Needs.{needs}
 use lib.ListN.{length}
 use mathlib.Core.Path.{_≡_}

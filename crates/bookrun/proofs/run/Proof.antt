@@ -1,4 +1,4 @@
--- `run` is safe: what `finish` promises of its count. Assumes nothing.
+-- `run` is safe: what `finish` promises of its count. Assumes only what libc and os declare.
 use Rattle.lines.proofs.Within.{finish-fills}
 use borrow.Author.Needs.{needs}
 use Rattle.bookrun.proofs.run.Statement.{statement}

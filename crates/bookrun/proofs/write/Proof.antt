@@ -1,4 +1,4 @@
--- `write` takes no more than there is, and ends: the tries fall. Assumes nothing.
+-- `write` takes no more than there is, and ends: the tries fall. Assumes only what libc and os declare.
 use borrow.Author.Needs.{needs}
 use Rattle.bookrun.proofs.write.Statement.{statement}
 use Rattle.bookrun.proofs.write.Tie as tie

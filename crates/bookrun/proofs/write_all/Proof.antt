@@ -1,4 +1,4 @@
--- `write_all` is safe and ends: each turn leaves fewer bytes. Assumes nothing.
+-- `write_all` is safe and ends: each turn leaves fewer bytes. Assumes only what libc and os declare.
 use Prim.Native.Nat.{_-_, _≤_}
 use borrow.Author.Needs.{needs}
 use lib.ListN.{length}

@@ -7,15 +7,16 @@ use native.Mathlib.Numerals.{add-one}
 use borrow.Author.Needs.{needs}
 use lib.ListN.{length, take, getD, set, length-set}
 use lib.Seq.{sets, take-all, take-suc, length-take-le}
+use Rattle.lines.specs.Hex.{replyLine}
 use Rattle.frames.proofs.Stores.{sets-snoc}
 use Rattle.lines.proofs.put_line.Statement.{statement}
 use Rattle.lines.proofs.put_line.Tie as tie
 
 abbrev Inv-loop : tie.InvT-loop
-Inv-loop out₀ at line i₀ out i = (i ≤ 29) × (length out ≡ length out₀) × (out ≡ sets out₀ at (take i line))
+Inv-loop out₀ at line i₀ out i = (i ≤ replyLine) × (length out ≡ length out₀) × (out ≡ sets out₀ at (take i line))
 
 abbrev μ-loop : tie.MeasureT-loop
-μ-loop out₀ at line i₀ out i = 29 - i
+μ-loop out₀ at line i₀ out i = replyLine - i
 
 loop-holds : tie.Need-loop-holds Inv-loop μ-loop
 loop-holds c = search needs
@@ -39,7 +40,7 @@ loop-again : tie.Need-loop-again Inv-loop μ-loop
 loop-again c =
     let a = c .before .before .args in
     let p = c .before .loop in
-    let k : length (a .t3) ≡ 29 = search needs in
+    let k : length (a .t3) ≡ replyLine = search needs in
     let m : length (take (p .i) (a .t3)) ≡ p .i = length-take-le (p .i) (a .t3) (omega arith) in (
       omega arith,
       simp length-set (p .inv .1),
@@ -55,7 +56,7 @@ returns : tie.Need-returns Inv-loop μ-loop
 returns c =
     let a = c .before .before .args in
     let p = c .before .loop in
-    let k : length (a .t3) ≡ 29 = search needs in
+    let k : length (a .t3) ≡ replyLine = search needs in
     p .inv .2 ∙ ap (sets (a .out .now) (a .at)) (take-all (p .i) (a .t3) (omega arith))
 
 pub put-line-spec : {M : Type 1} → statement M

@@ -1,4 +1,4 @@
--- `end` is safe: what `finish` promises of its count. Assumes nothing.
+-- `end` is safe: what `finish` promises of its count. Assumes only what libc declares.
 use Rattle.lines.proofs.Within.{finish-fills}
 use borrow.Author.Needs.{needs}
 use Rattle.lines_cases.proofs.end.Statement.{statement}

@@ -1,4 +1,4 @@
--- `main` ends: the turns fall. Assumes nothing.
+-- `main` ends: the turns fall. Assumes only what libc declares.
 use borrow.Author.Needs.{needs}
 use Rattle.lines_cases.proofs.main.Statement.{statement}
 use Rattle.lines_cases.proofs.main.Tie as tie

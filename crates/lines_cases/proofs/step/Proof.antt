@@ -1,4 +1,4 @@
--- `step` is safe: what `feed` promises of its count. Assumes nothing.
+-- `step` is safe: what `feed` promises of its count. Assumes only what libc declares.
 use Rattle.lines.proofs.Within.{feed-fills}
 use borrow.Author.Needs.{needs}
 use Rattle.lines_cases.proofs.step.Statement.{statement}

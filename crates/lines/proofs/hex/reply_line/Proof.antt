@@ -8,7 +8,9 @@ use native.Mathlib.Numerals.{add-one}
 use borrow.Author.Needs.{needs}
 use lib.ListN.{length, take, getD, replicate, length-set}
 use lib.Seq.{sets, take-all}
-use Rattle.lines.specs.Hex.{hexadecimal, printed}
+use Rattle.figures.specs.Limits.{replyWidths}
+use Rattle.frames.specs.Numbers.{total}
+use Rattle.lines.specs.Hex.{lineFeed, hexadecimal, printed, replyLine}
 use Rattle.frames.proofs.Stores.{sets-front}
 use Rattle.lines.proofs.Stores.{sets-append}
 use Rattle.lines.proofs.Spelling.{length-hex, hex-more, hex-many}
@@ -16,10 +18,10 @@ use Rattle.lines.proofs.hex.reply_line.Statement.{statement}
 use Rattle.lines.proofs.hex.reply_line.Tie as tie
 
 abbrev Inv-loop : tie.InvT-loop
-Inv-loop bytes line₀ i₀ line i = (i ≤ 14) × (length line ≡ 29) × (line ≡ sets (replicate 29 10) 0 (hexadecimal (take i bytes)))
+Inv-loop bytes line₀ i₀ line i = (i ≤ total replyWidths) × (length line ≡ replyLine) × (line ≡ sets (replicate replyLine lineFeed) 0 (hexadecimal (take i bytes)))
 
 abbrev μ-loop : tie.MeasureT-loop
-μ-loop bytes line₀ i₀ line i = 14 - i
+μ-loop bytes line₀ i₀ line i = total replyWidths - i
 
 reply-bytes-requires : tie.Need-reply-bytes-requires Inv-loop μ-loop
 reply-bytes-requires c κs = search needs
@@ -61,12 +63,12 @@ loop-again : tie.Need-loop-again Inv-loop μ-loop
 loop-again c =
     let p = c .before .before .before .loop in
     let r = c .before .before .before .before .reply-bytes .result in
-    let k : length r ≡ 14 = search needs in
+    let k : length r ≡ total replyWidths = search needs in
     let x = getD r (p .i) 0 in (
       omega arith,
       simp length-set (p .inv .1),
       rw (add-one, c .before .high .ensures, c .low .ensures, p .inv .2, hex-more r (p .i) (omega arith))
-          (rw (hex-many r (p .i) (omega arith), zero-add) at (sets-append (hexadecimal (take (p .i) r)) (hexadecimal (x ∷ [])) (replicate 29 10) 0)),
+          (rw (hex-many r (p .i) (omega arith), zero-add) at (sets-append (hexadecimal (take (p .i) r)) (hexadecimal (x ∷ [])) (replicate replyLine lineFeed) 0)),
     )
 
 returns : tie.Need-returns Inv-loop μ-loop
@@ -74,11 +76,11 @@ unfolding printed
 returns c =
     let p = c .before .loop in
     let r = c .before .before .reply-bytes .result in
-    let k : length r ≡ 14 = search needs in
-    let m : length (hexadecimal r) ≡ 28 = length-hex r ∙ ap (λ (n : ℕ). 2 * n) k in
+    let k : length r ≡ total replyWidths = search needs in
+    let m : length (hexadecimal r) ≡ 2 * total replyWidths = length-hex r ∙ ap (λ (n : ℕ). 2 * n) k in
     p .inv .2
-    ∙ ap (λ (t : List ℕ). sets (replicate 29 10) 0 (hexadecimal t)) (take-all (p .i) r (omega arith))
-    ∙ sets-front (hexadecimal r) (replicate 29 10) (omega arith)
+    ∙ ap (λ (t : List ℕ). sets (replicate replyLine lineFeed) 0 (hexadecimal t)) (take-all (p .i) r (omega arith))
+    ∙ sets-front (hexadecimal r) (replicate replyLine lineFeed) (omega arith)
     ∙ rw (m, c .before .before .reply-bytes .ensures)
 
 pub reply-line-spec : {M : Type 1} → statement M
