@@ -16,7 +16,7 @@ use figures::rights::{FREE_RIGHT, Right};
 
 // A right. The figure that the mark does not name is 0.
 #[repr(C)]
-#[derive(Drop)]
+#[derive(Clone, Copy)]
 pub struct KeptRight {
     held: bool,
     counted: bool,
@@ -26,7 +26,7 @@ pub struct KeptRight {
 }
 
 #[repr(C)]
-#[derive(Drop)]
+#[derive(Clone, Copy)]
 pub struct KeptBook {
     keys: [Key; KEY_PLACES],
     rights: [KeptRight; RIGHT_PLACES],

@@ -1,4 +1,6 @@
 // The key book: keys, rights and one user purse, by value. A book comes only from the empty one, by calls.
+#![tactic(auto)]
+
 mod deletions;
 pub mod kept;
 mod loads;
@@ -23,7 +25,7 @@ use frames::reader::read;
 use frames::{Frame, Seen};
 use places::Verdict;
 
-#[derive(Drop)]
+#[derive(Clone, Copy)]
 pub struct Book {
     keys: [Key; KEY_PLACES],
     rights: [Right; RIGHT_PLACES],
@@ -31,7 +33,7 @@ pub struct Book {
 }
 
 // What a call leaves.
-#[derive(Drop)]
+#[derive(Clone, Copy)]
 pub struct Called {
     pub book: Book,
     pub reply: Reply,

@@ -16,7 +16,7 @@ use figures::rights::{FREE_RIGHT, Right, WantedRight};
 use places::Found;
 
 // The place of a key, and that of a right.
-#[derive(Drop)]
+#[derive(Clone, Copy)]
 pub struct Places {
     pub key: usize,
     pub right: usize,

@@ -18,7 +18,7 @@ use figures::rights::Right;
 use places::{Found, Verdict};
 
 // That no right fits, or the lowest fitting one that can pay, if any.
-#[derive(Drop)]
+#[derive(Clone, Copy)]
 pub enum Choice {
     NoneFits,
     Fitting(Found),

@@ -1,4 +1,6 @@
 // Runs the cases of standard input through the book and prints what it answers. The expected output was worked out from the paper.
+#![tactic(auto)]
+
 mod hex;
 mod show;
 

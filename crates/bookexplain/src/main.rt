@@ -1,4 +1,6 @@
 // Reads reply lines, and prints beside each what it says in words.
+#![tactic(auto)]
+
 use figures::limits::FRAME_BYTES;
 use frames::numbers::number4;
 use libc::{STDIN_FILENO, STDOUT_FILENO};

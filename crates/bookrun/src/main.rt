@@ -1,4 +1,6 @@
 // The key book over lines: frames from standard input, replies to standard output, from an empty book.
+#![tactic(auto)]
+
 ghost use Rattle.std.specs.Prelude.{◌≤◌, length};
 ghost use Rattle.lines.specs.Hex.{reply_line};
 
@@ -6,7 +8,7 @@ use libc::{EINTR, STDIN_FILENO, STDOUT_FILENO};
 use lines::State;
 
 // The state after a part of the input, and whether all went well so far.
-#[derive(Drop)]
+#[derive(Clone, Copy)]
 struct Done {
     state: State,
     well: bool,

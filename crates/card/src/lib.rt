@@ -1,5 +1,7 @@
 // The book for programs in C and in Rust. It lies in the caller's memory: one function makes an empty book, the other takes a frame, lends
 // the rest on, and writes the next book back. The names are the whole program's, as in C, so both begin with `keybook`.
+#![tactic(auto)]
+
 ghost use Rattle.std.specs.Prelude.{◌≡◌};
 ghost use Rattle.rules.specs.Pages.{empty_book};
 ghost use Rattle.rules.specs.Rules.{call};

@@ -1,7 +1,7 @@
 -- The tests of IDs and names decide equality, and what they say of free places. Assumes nothing.
 use Prim.Native.Nat.{ℕ}
 use mathlib.Core.Path.{◌≡◌, refl}
-use mathlib.Core.Bool.{Bool, true, false, ◌&&◌, and_false}
+use mathlib.Core.Bool.{Bool, true, false, ◌&&◌, and-false}
 use borrow.Author.Tests.{eqb-true, eq-eqb}
 use lib.Dec.{eqb}
 use Rattle.places.proofs.Tests.{and_left, and_right, and_both}
@@ -48,7 +48,7 @@ same_name_refl a = simp (same_id_refl, eqb_same)
 
 -- what is of the ID n is of no other
 pub other : (t : Bool) (a n i : KeyId) → same_id n i ≡ false → (t && same_id a n) ≡ true → (t && same_id a i) ≡ false
-other t a n i h e = let q : a ≡ n = search (same_id_eq, and_right) in rw (q, h) (and_false t)
+other t a n i h e = let q : a ≡ n = search (same_id_eq, and_right) in rw (q, h) (and-false t)
 
 -- a right of a name is one of the name's ID
 pub is_right-is_of : (n : RightName) (r : Right) → is_right n r ≡ true → is_of n.id r ≡ true

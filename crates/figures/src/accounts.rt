@@ -6,14 +6,14 @@ use crate::names::{Tokens, TrafficKeys};
 use crate::policies::is_counted;
 
 // Either a count of traffic keys left, or a cost in tokens.
-#[derive(Drop)]
+#[derive(Clone, Copy)]
 pub enum Account {
     Counted(TrafficKeys),
     Purse(Tokens),
 }
 
 // What a load brings: traffic keys to the right's counter, or tokens to the purse.
-#[derive(Drop)]
+#[derive(Clone, Copy)]
 pub enum Credit {
     ToCounter(TrafficKeys),
     ToPurse(Tokens),
@@ -21,6 +21,7 @@ pub enum Credit {
 
 impl Credit {
     // The one place where an amount becomes traffic keys or tokens.
+    #[tactic(auto, unfolding(crate::specs::Accounts::credit_of))]
     pub fn of(spe: u8, amount: u32) -> Credit
         ensures { result ≡ credit_of spe amount }
     {

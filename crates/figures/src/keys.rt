@@ -6,7 +6,7 @@ use crate::limits::KEY_BYTES;
 use crate::names::{KeyId, NO_ID, Timestamp};
 
 #[repr(C)]
-#[derive(Drop)]
+#[derive(Clone, Copy)]
 pub struct Key {
     pub held: bool,
     pub id: KeyId,
@@ -22,13 +22,14 @@ pub const FREE_KEY: Key = Key {
 };
 
 // What a look-up of keys wants.
-#[derive(Drop)]
+#[derive(Clone, Copy)]
 pub enum WantedKey {
     WithId(KeyId),
     FreeKey,
 }
 
 impl Key {
+    #[tactic(auto, unfolding(crate::specs::Keys::free_key, crate::specs::Names::no_id))]
     pub fn free() -> Key
         ensures { result ≡ free_key }
     {
@@ -45,6 +46,7 @@ impl Key {
     }
 
     // The key after a grant: a live one moves its replay counter.
+    #[tactic(auto, unfolding(crate::specs::Keys::granted_key))]
     pub fn granted(self, ts: Timestamp) -> Key
         ensures { result ≡ granted_key ts self }
     {
@@ -57,6 +59,7 @@ impl Key {
     }
 
     // The key after a load: held under the ID, with the load's bytes where it carries some.
+    #[tactic(auto, unfolding(crate::specs::Keys::loaded_key))]
     pub fn loaded(self, id: KeyId, carried: bool, bytes: [u8; KEY_BYTES]) -> Key
         ensures { result ≡ loaded_key id carried bytes self }
     {

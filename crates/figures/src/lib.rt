@@ -1,4 +1,6 @@
 // The figures of the key book: what single keys, rights, loads and messages are, and what each of them answers by itself.
+#![tactic(auto)]
+
 pub mod accounts;
 pub mod keys;
 pub mod limits;

@@ -10,13 +10,13 @@ use crate::rights::Right;
 use places::Verdict;
 
 // Flag bit 0: add, and not set. Flag bit 1: the key is present.
-#[derive(Drop)]
+#[derive(Clone, Copy)]
 pub struct Flags {
     pub add: bool,
     pub key: bool,
 }
 
-#[derive(Drop)]
+#[derive(Clone, Copy)]
 pub struct Load {
     pub name: RightName,
     pub flags: Flags,
@@ -24,7 +24,7 @@ pub struct Load {
     pub cost: Tokens,
 }
 
-#[derive(Drop)]
+#[derive(Clone, Copy)]
 pub struct Message {
     pub id: KeyId,
     pub ts: Timestamp,
@@ -32,26 +32,27 @@ pub struct Message {
 }
 
 // A sum within its limit, or past it.
-#[derive(Drop)]
+#[derive(Clone, Copy)]
 pub enum Total {
     Sum(u32),
     Over,
 }
 
 // What a load leaves of the right's account and of the purse.
-#[derive(Drop)]
+#[derive(Clone, Copy)]
 pub struct Settled {
     pub account: Account,
     pub purse: Tokens,
 }
 
-#[derive(Drop)]
+#[derive(Clone, Copy)]
 pub enum Settlement {
     Within(Settled),
     Past,
 }
 
 // Set to the amount or raised by it, tested before anything is stored.
+#[tactic(auto, unfolding(crate::specs::Loads::total_of, crate::specs::Loads::raised))]
 fn summed(limit: u32, add: bool, before: u32, amount: u32) -> Total
     ensures { result ≡ total_of limit (raised add before amount) }
 {
@@ -102,6 +103,7 @@ impl Load {
     }
 
     // The right that this load leaves, with the account settled.
+    #[tactic(auto, unfolding(crate::specs::Loads::loaded_right))]
     pub fn right(self, account: Account) -> Right
         ensures { result ≡ loaded_right self account }
     {
@@ -114,6 +116,7 @@ impl Load {
     }
 
     // Fails where a counted right has a cost.
+    #[tactic(auto, unfolding(crate::specs::Loads::costly))]
     pub fn free_of_cost(self) -> Verdict
         ensures { failed result ≡ costly self }
     {
@@ -125,6 +128,7 @@ impl Load {
     }
 
     // Fails where a deletion has a flag, an amount or a cost.
+    #[tactic(auto, unfolding(crate::specs::Loads::laden))]
     pub fn bare(self) -> Verdict
         ensures { failed result ≡ laden self }
     {

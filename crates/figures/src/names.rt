@@ -6,23 +6,23 @@ ghost use Rattle.figures.specs.Names.{same_id, same_name, covers, empty, live};
 use places::Verdict;
 
 #[repr(C)]
-#[derive(Drop)]
+#[derive(Clone, Copy)]
 pub struct Tokens(pub u32);
 
 #[repr(C)]
-#[derive(Drop)]
+#[derive(Clone, Copy)]
 pub struct TrafficKeys(pub u32);
 
 #[repr(C)]
-#[derive(Drop)]
+#[derive(Clone, Copy)]
 pub struct Timestamp(pub u32);
 
 #[repr(C)]
-#[derive(Drop)]
+#[derive(Clone, Copy)]
 pub struct KeyDomain(pub u8, pub u8, pub u8);
 
 #[repr(C)]
-#[derive(Drop)]
+#[derive(Clone, Copy)]
 pub struct KeyId {
     pub domain: KeyDomain,
     pub group: u16,
@@ -31,14 +31,14 @@ pub struct KeyId {
 
 // From TS low, which is outside, to TS high, which is inside.
 #[repr(C)]
-#[derive(Drop)]
+#[derive(Clone, Copy)]
 pub struct Interval {
     pub low: Timestamp,
     pub high: Timestamp,
 }
 
 #[repr(C)]
-#[derive(Drop)]
+#[derive(Clone, Copy)]
 pub struct RightName {
     pub id: KeyId,
     pub interval: Interval,
@@ -52,6 +52,7 @@ pub const NO_ID: KeyId = KeyId {
 };
 
 impl KeyId {
+    #[tactic(auto, unfolding(crate::specs::Names::same_id))]
     pub fn same(self, other: KeyId) -> bool
         ensures { result ≡ same_id self other }
     {
@@ -68,6 +69,7 @@ impl KeyId {
 }
 
 impl RightName {
+    #[tactic(auto, unfolding(crate::specs::Names::same_name))]
     pub fn same(self, other: RightName) -> bool
         ensures { result ≡ same_name self other }
     {
@@ -83,6 +85,7 @@ impl RightName {
 }
 
 impl Interval {
+    #[tactic(auto, unfolding(crate::specs::Names::covers))]
     pub fn covers(self, ts: Timestamp) -> bool
         ensures { result ≡ covers self ts }
     {
@@ -90,6 +93,7 @@ impl Interval {
     }
 
     // Fails where no TS can lie inside.
+    #[tactic(auto, unfolding(crate::specs::Names::empty))]
     pub fn proper(self) -> Verdict
         ensures { failed result ≡ empty self }
     {
@@ -103,6 +107,7 @@ impl Interval {
 
 impl Timestamp {
     // Whether a message with this TS is live after a replay counter.
+    #[tactic(auto, unfolding(crate::specs::Names::live))]
     pub fn live(self, replay: Timestamp) -> bool
         ensures { result ≡ live replay self }
     {

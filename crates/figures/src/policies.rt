@@ -10,24 +10,28 @@ use crate::limits::{
 use crate::names::{Tokens, TrafficKeys};
 use places::Verdict;
 
+#[tactic(auto, unfolding(crate::specs::Policies::is_live))]
 pub fn is_live(spe: u8) -> bool
     ensures { result ≡ is_live spe }
 {
     (spe == LIVE_PURSE) | (spe == LIVE_COUNTED)
 }
 
+#[tactic(auto, unfolding(crate::specs::Policies::is_counted))]
 pub fn is_counted(spe: u8) -> bool
     ensures { result ≡ is_counted spe }
 {
     (spe == LIVE_COUNTED) | (spe == PLAYBACK_COUNTED)
 }
 
+#[tactic(auto, unfolding(crate::specs::Policies::is_purse))]
 pub fn is_purse(spe: u8) -> bool
     ensures { result ≡ is_purse spe }
 {
     (spe == LIVE_PURSE) | (spe == PLAYBACK_PURSE)
 }
 
+#[tactic(auto, unfolding(crate::specs::Policies::is_deletion))]
 pub fn is_deletion(spe: u8) -> bool
     ensures { result ≡ is_deletion spe }
 {
@@ -35,6 +39,7 @@ pub fn is_deletion(spe: u8) -> bool
 }
 
 // Fails where no right can have the SPE.
+#[tactic(auto, unfolding(crate::specs::Policies::holds_right))]
 pub fn policy(spe: u8) -> Verdict
     ensures { failed result ≡ not (holds_right spe) }
 {
@@ -46,6 +51,7 @@ pub fn policy(spe: u8) -> Verdict
 }
 
 // The limit of a counter; SPE 0C has one of its own.
+#[tactic(auto, unfolding(crate::specs::Policies::count_limit))]
 pub fn count_limit(spe: u8) -> TrafficKeys
     ensures { result ≡ count_limit spe }
 {
@@ -56,6 +62,7 @@ pub fn count_limit(spe: u8) -> TrafficKeys
 }
 
 // The limit of the purse that a right of the SPE pays from: all pay from the user purse.
+#[tactic(auto, unfolding(crate::specs::Policies::purse_limit_of))]
 pub fn purse_limit(spe: u8) -> Tokens
     ensures { result ≡ purse_limit_of spe }
 {

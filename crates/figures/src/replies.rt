@@ -6,7 +6,7 @@ use crate::accounts::Account;
 use crate::names::{Timestamp, Tokens};
 
 // The refusals that show nothing beside their code.
-#[derive(Drop)]
+#[derive(Clone, Copy)]
 pub enum Refusal {
     BufferLength,
     Unreadable,
@@ -22,7 +22,7 @@ pub enum Refusal {
 }
 
 // A right as held: its place and account, with the purse and the replay counter of its key.
-#[derive(Drop)]
+#[derive(Clone, Copy)]
 pub struct Shown {
     pub place: usize,
     pub account: Account,
@@ -30,7 +30,7 @@ pub struct Shown {
     pub replay: Timestamp,
 }
 
-#[derive(Drop)]
+#[derive(Clone, Copy)]
 pub enum Reply {
     Loaded(Shown),
     Deleted(Tokens),

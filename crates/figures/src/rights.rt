@@ -8,7 +8,7 @@ use crate::loads::Message;
 use crate::names::{Interval, KeyId, NO_ID, RightName, Timestamp, Tokens, TrafficKeys};
 use crate::policies::is_live;
 
-#[derive(Drop)]
+#[derive(Clone, Copy)]
 pub struct Right {
     pub held: bool,
     pub name: RightName,
@@ -29,7 +29,7 @@ pub const FREE_RIGHT: Right = Right {
 };
 
 // What a look-up of rights wants.
-#[derive(Drop)]
+#[derive(Clone, Copy)]
 pub enum WantedRight {
     Named(RightName),
     OfId(KeyId),
@@ -37,6 +37,7 @@ pub enum WantedRight {
 }
 
 impl Right {
+    #[tactic(auto, unfolding(crate::specs::Rights::free_right, crate::specs::Names::no_id))]
     pub fn free() -> Right
         ensures { result ≡ free_right }
     {
@@ -54,6 +55,7 @@ impl Right {
     }
 
     // Whether the right fits a message, by the replay counter of its key.
+    #[tactic(auto, unfolding(crate::specs::Rights::fits))]
     pub fn fits(self, message: Message, replay: Timestamp) -> bool
         ensures { result ≡ fits message replay self }
     {
@@ -68,6 +70,7 @@ impl Right {
     }
 
     // The right after a grant that it pays for. A field that is an enum is not stored to: the struct is made anew.
+    #[tactic(auto, unfolding(crate::specs::Rights::charged_right))]
     pub fn charged(self) -> Right
         ensures { result ≡ charged_right self }
     {
@@ -81,6 +84,7 @@ impl Right {
     }
 
     // The right, or a free place where it is of the ID.
+    #[tactic(auto, unfolding(crate::specs::Rights::unless_of, crate::specs::Rights::free_right, crate::specs::Names::no_id))]
     pub fn unless_of(self, id: KeyId) -> Right
         ensures { result ≡ unless_of id self }
     {

@@ -1,4 +1,6 @@
 // Frames: what the reader makes of a byte string, and what the writer makes of a frame.
+#![tactic(auto)]
+
 pub mod layouts;
 pub mod numbers;
 pub mod reader;
@@ -11,7 +13,7 @@ use figures::names::RightName;
 use figures::replies::Refusal;
 
 // 01, Frames: one of four kinds, each with its own fields.
-#[derive(Drop)]
+#[derive(Clone, Copy)]
 pub enum Frame {
     Load(Load),
     Message(Message),
@@ -20,21 +22,21 @@ pub enum Frame {
 }
 
 // What a byte string reads as.
-#[derive(Drop)]
+#[derive(Clone, Copy)]
 pub enum Seen {
     Whole(Frame),
     Unread(Refusal),
 }
 
 // The sixteen key bytes stand beside the frame.
-#[derive(Drop)]
+#[derive(Clone, Copy)]
 pub struct ReadFrame {
     pub frame: Seen,
     pub key: [u8; KEY_BYTES],
 }
 
 // How many bytes were written, or why none were.
-#[derive(Drop)]
+#[derive(Clone, Copy)]
 pub enum Written {
     Count(usize),
     Unwritten(Refusal),

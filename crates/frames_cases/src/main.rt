@@ -1,4 +1,6 @@
 // Runs cases through the frame reader and writer and prints what they answer: 01, Frames. The expected output was worked out from the paper.
+#![tactic(auto)]
+
 mod run;
 mod show;
 

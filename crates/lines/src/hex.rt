@@ -15,14 +15,14 @@ const NO_DIGIT: u8 = 16;
 pub const REPLY_LINE: usize = 2 * REPLY_BYTES + 1;
 
 // How many bytes a line spells, or that it is damaged.
-#[derive(Drop)]
+#[derive(Clone, Copy)]
 pub enum Frame {
     Bytes(usize),
     Damaged,
 }
 
 // The bytes stand at the front, with zeros after them.
-#[derive(Drop)]
+#[derive(Clone, Copy)]
 pub struct Decoded {
     pub frame: Frame,
     pub bytes: [u8; FRAME_BYTES],

@@ -1,4 +1,6 @@
 // The line program on slices: characters come in chunks of any size, and each line is answered by the book.
+#![tactic(auto)]
+
 pub mod hex;
 
 ghost use Rattle.std.specs.Prelude.{◌≡◌, ◌+◌, ◌≤◌, min, length, take};
@@ -16,7 +18,7 @@ use hex::{Frame, LINE_FEED, REPLY_LINE};
 pub const KEPT: usize = LINE_DIGITS + 1;
 
 // Between two chunks: the book, and how many characters of the line have come, with the first of them. Its size is fixed.
-#[derive(Drop)]
+#[derive(Clone, Copy)]
 pub struct State {
     book: Book,
     line: [u8; KEPT],
@@ -24,7 +26,7 @@ pub struct State {
 }
 
 // How many characters were taken, and how many printed.
-#[derive(Drop)]
+#[derive(Clone, Copy)]
 pub struct Fed {
     pub state: State,
     pub used: usize,

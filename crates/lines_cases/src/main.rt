@@ -1,9 +1,11 @@
 // The cases of this folder's stdin, fed one character at a time with room for one reply.
+#![tactic(auto)]
+
 use libc::{STDIN_FILENO, STDOUT_FILENO};
 use lines::State;
 use lines::hex::REPLY_LINE;
 
-#[derive(Drop)]
+#[derive(Clone, Copy)]
 struct Turn {
     state: State,
     more: bool,
