@@ -118,6 +118,7 @@ fn is_kind(bytes: &[u8], kind: u8) -> bool
     field1(bytes, KIND_AT) == kind
 }
 
+#[tactic(auto, unfolding(crate::specs::Reading::is_load))]
 fn is_load(bytes: &[u8]) -> bool
     ensures { result ≡ is_load bytes.now }
 {
@@ -125,12 +126,14 @@ fn is_load(bytes: &[u8]) -> bool
     is_kind(bytes, LOAD) & (flags < 4) & (bytes.len() == load_length(flags_from(flags).key))
 }
 
+#[tactic(auto, unfolding(crate::specs::Reading::is_message))]
 fn is_message(bytes: &[u8]) -> bool
     ensures { result ≡ is_message bytes.now }
 {
     is_kind(bytes, MESSAGE) & (bytes.len() == MESSAGE_BYTES) & (field1(bytes, MARK_AT) < 2)
 }
 
+#[tactic(auto, unfolding(crate::specs::Reading::is_right))]
 fn is_right(bytes: &[u8], kind: u8) -> bool
     ensures { result ≡ is_right kind bytes.now }
 {
@@ -138,6 +141,7 @@ fn is_right(bytes: &[u8], kind: u8) -> bool
 }
 
 // The first row of the table whose tests pass; 11 where none does.
+#[tactic(auto, unfolding(crate::specs::Reading::seen))]
 fn seen(bytes: &[u8]) -> Seen
     ensures { result ≡ seen bytes.now }
 {
@@ -163,6 +167,7 @@ fn key_present(bytes: &[u8]) -> bool
 }
 
 // Zeros where no key is present, or the frame is refused.
+#[tactic(auto, unfolding(crate::specs::Reading::key_beside))]
 fn key_beside(bytes: &[u8]) -> [u8; KEY_BYTES]
     ensures { result ≡ key_beside bytes.now }
 {
