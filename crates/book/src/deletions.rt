@@ -18,6 +18,7 @@ use figures::rights::{FREE_RIGHT, Right, WantedRight};
 use places::{Found, Verdict};
 
 // Without the key of an ID.
+#[tactic(auto, unfolding(places::specs::Words::put, figures::specs::Keys::free_key, figures::specs::Names::no_id))]
 fn without_key(keys: [Key; KEY_PLACES], id: KeyId) -> [Key; KEY_PLACES]
     ensures { result ≡ put (first (λ k. is_key id k) keys) free_key keys }
 {
@@ -30,6 +31,7 @@ fn without_key(keys: [Key; KEY_PLACES], id: KeyId) -> [Key; KEY_PLACES]
 }
 
 // Without the rights of an ID, for every interval.
+#[tactic(auto, unfolding(figures::specs::Rights::unless_of))]
 fn without_rights(rights: [Right; RIGHT_PLACES], id: KeyId) -> [Right; RIGHT_PLACES]
     ensures { result ≡ put_all (λ x. is_of id x) free_right rights }
 {
@@ -45,6 +47,7 @@ fn without_rights(rights: [Right; RIGHT_PLACES], id: KeyId) -> [Right; RIGHT_PLA
 
 impl Book {
     // These rights stay. When the ID's last right goes, the key goes too.
+    #[tactic(auto, unfolding(rules::specs::Deletions::left, rules::specs::Pages::key_at))]
     fn left(self, id: KeyId, rest: [Right; RIGHT_PLACES]) -> Book
         ensures { pages result ≡ left (pages self) id rest }
     {

@@ -112,6 +112,7 @@ fn kept_of(rights: [Right; RIGHT_PLACES]) -> [KeptRight; RIGHT_PLACES]
 }
 
 impl KeptBook {
+    #[tactic(auto, unfolding(crate::specs::Kept::opened))]
     fn book(self) -> Book
         ensures { pages result ≡ opened self }
     {
@@ -125,6 +126,7 @@ impl KeptBook {
         }
     }
 
+    #[tactic(auto, unfolding(crate::specs::Kept::kept))]
     fn of(book: Book) -> KeptBook
         ensures { result ≡ kept (pages book) }
     {

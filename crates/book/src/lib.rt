@@ -51,6 +51,7 @@ fn room(lent: usize) -> Verdict
 }
 
 impl Book {
+    #[tactic(auto, unfolding(rules::specs::Pages::blank, figures::specs::Keys::free_key, figures::specs::Rights::free_right, figures::specs::Names::no_id))]
     pub fn empty() -> Book
         ensures { pages result ≡ empty_book }
     {

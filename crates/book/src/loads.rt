@@ -33,6 +33,7 @@ fn known(held: Found, carried: bool) -> Verdict
 
 impl Book {
     // 17: as held where the right is held.
+    #[tactic(auto, unfolding(rules::specs::Pages::user_purse))]
     fn over(self, key: Found, right: Found) -> Called
         ensures { result ≡ record { book = self; reply = over (pages self) key right } }
     {
@@ -49,6 +50,7 @@ impl Book {
     }
 
     // The load's key and right go to their places. The key is the one held before, or a free one.
+    #[tactic(auto, unfolding(places::specs::Words::put))]
     fn stored(
         self,
         load: Load,
@@ -119,6 +121,7 @@ impl Book {
         self.stored(load, bytes, key, places, settled)
     }
 
+    #[tactic(auto, unfolding(rules::specs::Rules::load))]
     pub(crate) fn load(self, frame: Load, bytes: [u8; KEY_BYTES]) -> Called
         ensures { (u : List ℕ) → after result u ≡ load (pages self) u frame bytes }
     {

@@ -53,6 +53,7 @@ pub(crate) fn right_at(rights: [Right; RIGHT_PLACES], want: WantedRight) -> Foun
 }
 
 // What a place holds; a free one where there is no such place.
+#[tactic(auto, unfolding(places::specs::Words::at, figures::specs::Keys::free_key, figures::specs::Names::no_id))]
 pub(crate) fn key_in(keys: [Key; KEY_PLACES], place: Found) -> Key
     ensures { result ≡ at free_key place keys }
 {
@@ -66,6 +67,7 @@ pub(crate) fn key_in(keys: [Key; KEY_PLACES], place: Found) -> Key
     free
 }
 
+#[tactic(auto, unfolding(places::specs::Words::at, figures::specs::Rights::free_right, figures::specs::Names::no_id))]
 pub(crate) fn right_in(rights: [Right; RIGHT_PLACES], place: Found) -> Right
     ensures { result ≡ at free_right place rights }
 {
@@ -114,6 +116,7 @@ pub(crate) fn shown_of(place: usize, right: Right, key: Key, purse: Tokens) -> S
 
 impl Book {
     // The right in a place, with the replay counter of the key in a place, as held.
+    #[tactic(auto, unfolding(rules::specs::Pages::as_held, rules::specs::Pages::key_in, rules::specs::Pages::right_in, rules::specs::Pages::purse_of))]
     pub(crate) fn as_held(self, key: Found, place: usize) -> Shown
         ensures { result ≡ as_held (pages self) key (At place) }
     {

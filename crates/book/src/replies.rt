@@ -66,6 +66,7 @@ fn none(code: u8, purse: u32) -> [u8; REPLY_BYTES]
     joined(code, NO_PLACE, 0, purse, 0)
 }
 
+#[tactic(auto, unfolding(rules::specs::Replies::reply_bytes, rules::specs::Replies::reply_fields))]
 pub fn reply_bytes(reply: Reply) -> [u8; REPLY_BYTES]
     ensures { result ≡ reply_bytes reply }
 {
