@@ -38,6 +38,7 @@ fn damaged() -> Decoded
 }
 
 // The value of a digit.
+#[tactic(auto, unfolding(crate::specs::Hex::digit_value))]
 fn digit(c: u8) -> u8
     ensures { result ≡ digit_value c }
 {
@@ -115,6 +116,7 @@ fn low(byte: u8) -> u8
 }
 
 // A reply's digits and a line feed.
+#[tactic(auto, unfolding(crate::specs::Hex::printed))]
 pub fn reply_line(reply: Reply) -> [u8; REPLY_LINE]
     ensures { result ≡ printed reply }
 {

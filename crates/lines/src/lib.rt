@@ -81,6 +81,7 @@ pub fn start() -> State
 }
 
 // Takes characters until none is left or a reply has no room, and prints the replies at the front of `out`.
+#[tactic(auto, unfolding(crate::specs::Feeding::feeding))]
 pub fn feed(state: State, input: &[u8], out: &mut [u8]) -> Fed
     ensures { left result out.new ≡ feeding (seen state) input.now out.old }
 {
@@ -117,6 +118,7 @@ pub fn feed(state: State, input: &[u8], out: &mut [u8]) -> Fed
 }
 
 // At the end of the input: a last line without line feed counts if it isn't empty.
+#[tactic(auto, unfolding(crate::specs::Feeding::finishing))]
 pub fn finish(state: State, out: &mut [u8]) -> Fed
     ensures { left result out.new ≡ finishing (seen state) out.old }
 {
