@@ -1,7 +1,6 @@
 // Places in a list, and what a check answers.
 #![tactic(auto)]
 
-
 // A place, or none.
 #[derive(Clone, Copy)]
 pub enum Found {
