@@ -26,8 +26,8 @@ pub extern "C" fn keybook_call(
     key: &mut [u8],
     reply: &mut [u8; REPLY_BYTES],
 )
-    ensures { record { book = book.exit.now; key = key.new; reply = reply.new }
-        ≡ leaves (call (opened book.entry.now) frame.now key.old) }
+    ensures { record { book = book.new; key = key.new; reply = reply.new }
+        ≡ leaves (call (opened book.old) frame.now key.old) }
 {
     *book = book.call(frame, key, reply);
 }
