@@ -4,7 +4,7 @@ use mathlib.Core.Path.{◌≡◌, refl, ap, ap₂}
 use mathlib.Core.List.{List, [], ◌∷◌, map}
 use Rattle.rules.specs.Pages.{Pages}
 use Rattle.book.specs.Types.{Right, Account, Counted, Purse}
-use Rattle.book.specs.Kept.{is_counter, cost_of, right_of, kept_right, opened, kept}
+use Rattle.book.specs.Kept.{right_of, kept_right, opened, kept}
 
 pub right_kept : (r : Right) → right_of (kept_right r) ≡ r
 right_kept r = ap (λ (a : Account). record { held = r.held; name = r.name; account = a }) (by_account r.account)

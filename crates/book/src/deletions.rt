@@ -31,7 +31,6 @@ fn without_key(keys: [Key; KEY_PLACES], id: KeyId) -> [Key; KEY_PLACES]
 }
 
 // Without the rights of an ID, for every interval.
-#[tactic(auto, unfolding(figures::specs::Rights::unless_of))]
 fn without_rights(rights: [Right; RIGHT_PLACES], id: KeyId) -> [Right; RIGHT_PLACES]
     ensures { result ≡ put_all (λ x. is_of id x) free_right rights }
 {

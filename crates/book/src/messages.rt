@@ -25,7 +25,6 @@ pub enum Choice {
 }
 
 // Chooses in one walk, whichever way it ends.
-#[tactic(auto, unfolding(crate::specs::Choices::choice))]
 fn choose(
     rights: [Right; RIGHT_PLACES],
     message: Message,
@@ -78,7 +77,6 @@ fn integrity(good: bool) -> Verdict
 
 impl Book {
     // The key in its place is handed out, and the right in its place is charged.
-    #[tactic(auto, unfolding(places::specs::Words::put))]
     fn grant(self, places: Places, ts: Timestamp, key: &mut [u8]) -> Called
         requires { Ready self places (length key.old) }
         ensures { after result key.new ≡ grant (pages self) (At places.key) (At places.right) ts }

@@ -131,7 +131,6 @@ fn put_load(buffer: &mut [u8], load: Load, key: [u8; KEY_BYTES])
     }
 }
 
-#[tactic(auto, unfolding(crate::specs::Writing::written_as))]
 fn put_frame(buffer: &mut [u8], frame: Frame, key: [u8; KEY_BYTES])
     requires { whole_length frame ≤ length buffer.old }
     ensures { buffer.new ≡ sets buffer.old 0 (written_as frame key) }

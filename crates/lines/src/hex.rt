@@ -116,7 +116,6 @@ fn low(byte: u8) -> u8
 }
 
 // A reply's digits and a line feed.
-#[tactic(auto, unfolding(crate::specs::Hex::printed))]
 pub fn reply_line(reply: Reply) -> [u8; REPLY_LINE]
     ensures { result ≡ printed reply }
 {

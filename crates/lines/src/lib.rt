@@ -81,7 +81,6 @@ pub fn start() -> State
 }
 
 // Takes characters until none is left or a reply has no room, and prints the replies at the front of `out`.
-#[tactic(auto, unfolding(crate::specs::Feeding::feeding))]
 pub fn feed(state: State, input: &[u8], out: &mut [u8]) -> Fed
     ensures { left result out.new ≡ feeding (seen state) input.now out.old }
 {

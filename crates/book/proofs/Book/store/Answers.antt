@@ -1,5 +1,5 @@
 -- Each check is a line of the rules' list, in the rules' order.
-use Rattle.std.proofs.Common.{◌≡◌, ℕ, refl, ap, sym, ◌∙◌}
+use Rattle.std.proofs.Common.{◌≡◌, refl, ap, sym, ◌∙◌}
 use Rattle.places.specs.Words.{failed, missing, or_else, at}
 use Rattle.places.proofs.Walks.{room_in}
 use Rattle.figures.specs.Rights.{free_right}
@@ -7,7 +7,7 @@ use Rattle.figures.proofs.Settling.{within_tells, past_tells}
 use Rattle.rules.specs.Pages.{Pages, key_at, right_at, right_in, free_key_at, free_right_at, key_room, right_room, purse_of}
 use Rattle.rules.specs.Loads.{store, load_refusals, loadable, account_before, over_limit, over_reply}
 use Rattle.rules.proofs.Refusals.{passed, refused-at}
-use Rattle.book.specs.Types.{Found, At, KeyId, RightName, Right, Account}
+use Rattle.book.specs.Types.{Found, KeyId, RightName, Right}
 use Rattle.book.specs.Pages.{pages, Held}
 use Rattle.book.proofs.Storing.{stored_is}
 use Rattle.book.proofs.Book.store.Goals as goal
