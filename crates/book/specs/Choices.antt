@@ -1,6 +1,6 @@
 -- What one walk over the rights answers to a message.
-use Rattle.std.specs.Prelude.{Bool, ◌&&◌, List}
-use Rattle.places.specs.Words.{if◌then◌else◌, first, missing}
+use Rattle.std.specs.Prelude.{Bool, ◌&&◌, List, if◌then◌else◌}
+use Rattle.places.specs.Words.{first, missing}
 use Rattle.figures.specs.Accounts.{can_pay}
 use Rattle.figures.specs.Rights.{fits}
 use Rattle.book.specs.Types.{Found, Choice, NoneFits, Fitting, Tokens, Timestamp, Right, Message}

@@ -1,6 +1,5 @@
 -- The book as it lies in memory that a caller lends between calls, and what a call leaves there.
-use Rattle.std.specs.Prelude.{ℕ, Bool, true, false, List, map}
-use Rattle.places.specs.Words.{if◌then◌else◌}
+use Rattle.std.specs.Prelude.{ℕ, Bool, true, false, List, map, if◌then◌else◌}
 use Rattle.figures.specs.Accounts.{counter}
 use Rattle.rules.specs.Pages.{Pages}
 use Rattle.rules.specs.Calls.{After}

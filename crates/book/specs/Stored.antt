@@ -1,6 +1,6 @@
 -- What a load leaves once its places are known.
-use Rattle.std.specs.Prelude.{ℕ, List}
-use Rattle.places.specs.Words.{if◌then◌else◌, at, missing}
+use Rattle.std.specs.Prelude.{ℕ, List, if◌then◌else◌}
+use Rattle.places.specs.Words.{at, missing}
 use Rattle.figures.specs.Keys.{free_key, loaded_key}
 use Rattle.figures.specs.Loads.{loaded_right}
 use Rattle.rules.specs.Pages.{Pages, user_purse, as_held}

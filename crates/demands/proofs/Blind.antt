@@ -4,7 +4,7 @@ use mathlib.Core.Path.{◌≡◌, refl, ap, ◌∙◌}
 use mathlib.Core.Bool.{Bool, true, false}
 use mathlib.Core.List.{List, [], ◌∷◌, map}
 use lib.ListN.{length}
-use Rattle.places.specs.Words.{if◌then◌else◌}
+use Rattle.std.specs.Prelude.{if◌then◌else◌}
 use Rattle.places.proofs.Lists.{first-map, put_map, at_map, if_map, if_same}
 use Rattle.figures.specs.Policies.{is_deletion}
 use Rattle.figures.specs.Keys.{zeros, free_key, is_key, granted_key, loaded_key}

@@ -8,7 +8,8 @@ use mathlib.Core.List.{List, [], ◌∷◌}
 use lib.ListN.{get_or}
 use lib.Dec.{eqb}
 use borrow.Author.Tests.{ne_eqb}
-use Rattle.places.specs.Words.{if◌then◌else◌, first, missing}
+use Rattle.std.specs.Prelude.{if◌then◌else◌}
+use Rattle.places.specs.Words.{first, missing}
 use Rattle.places.proofs.Lists.{by_test, clash, put_elim, put_cases, first_sat, at_all, get_or-blank}
 use Rattle.places.proofs.Tests.{if_elim, or_left, or_right}
 use Rattle.figures.specs.Names.{same_id}

@@ -1,6 +1,5 @@
 -- Demand 1: every byte string gets a defined reply and every call ends; a refusal alters neither the book nor any lent buffer.
-use Rattle.std.specs.Prelude.{ℕ, ◌≤◌, ◌≡◌, Bool, true, false, ◌||◌, List, [], ◌∷◌, length, leb, eqb}
-use Rattle.places.specs.Words.{if◌then◌else◌}
+use Rattle.std.specs.Prelude.{ℕ, ◌≤◌, ◌≡◌, Bool, true, false, ◌||◌, List, [], ◌∷◌, length, leb, eqb, if◌then◌else◌}
 use Rattle.figures.specs.Limits.{reply_widths}
 use Rattle.frames.specs.Numbers.{total}
 use Rattle.rules.specs.Pages.{Pages}

@@ -1,6 +1,5 @@
 -- Demand 3: key material steers nothing, and a grant hands out one key and no other bytes.
-use Rattle.std.specs.Prelude.{ℕ, ◌≡◌, Bool, true, false, ◌&&◌, List, [], ◌∷◌, map, length, take, eqb}
-use Rattle.places.specs.Words.{if◌then◌else◌}
+use Rattle.std.specs.Prelude.{ℕ, ◌≡◌, Bool, true, false, ◌&&◌, List, [], ◌∷◌, map, length, take, eqb, if◌then◌else◌}
 use Rattle.figures.specs.Names.{same_id}
 use Rattle.figures.specs.Keys.{zeros}
 use Rattle.frames.specs.Numbers.{total}

@@ -4,7 +4,7 @@ use mathlib.Core.Path.{◌≡◌, refl}
 use mathlib.Core.Bool.{Bool, true, false}
 use lib.Dec.{ltb}
 use native.Mathlib.Omega.{arith}
-use Rattle.places.specs.Words.{if◌then◌else◌}
+use Rattle.std.specs.Prelude.{if◌then◌else◌}
 use Rattle.figures.specs.Types.{Tokens, Account, Credit, Load, Settled, Within, Past}
 use Rattle.figures.specs.declared.loads.Total.TheVariants.{Sum, Over}
 use Rattle.figures.specs.Loads.{total_of, credit_in, account_by, purse_by, over_by, settled}

@@ -1,6 +1,5 @@
 -- What a right pays from: when it can pay, and what a grant leaves.
-use Rattle.std.specs.Prelude.{ℕ, ◌-◌, Bool, leb}
-use Rattle.places.specs.Words.{if◌then◌else◌}
+use Rattle.std.specs.Prelude.{ℕ, ◌-◌, Bool, leb, if◌then◌else◌}
 use Rattle.figures.specs.Types.{Tokens, TrafficKeys, Account, Counted, Purse, Credit, ToCounter, ToPurse}
 use Rattle.figures.specs.Policies.{is_counted}
 

@@ -1,6 +1,5 @@
 -- One key: a free place, the tests of look-ups, and what a load or a grant leaves.
-use Rattle.std.specs.Prelude.{ℕ, Bool, true, false, not, ◌&&◌, List, replicate}
-use Rattle.places.specs.Words.{if◌then◌else◌}
+use Rattle.std.specs.Prelude.{ℕ, Bool, true, false, not, ◌&&◌, List, replicate, if◌then◌else◌}
 use Rattle.figures.specs.Limits.{key_bytes}
 use Rattle.figures.specs.Types.{Timestamp, KeyId, Key, WantedKey, WithId, FreeKey}
 use Rattle.figures.specs.Names.{same_id, no_id, live}

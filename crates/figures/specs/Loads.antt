@@ -1,6 +1,5 @@
 -- What a load makes of an account and a purse: 01, What a load does.
-use Rattle.std.specs.Prelude.{ℕ, ◌+◌, Bool, true, not, ◌&&◌, ◌||◌, ltb, eqb}
-use Rattle.places.specs.Words.{if◌then◌else◌}
+use Rattle.std.specs.Prelude.{ℕ, ◌+◌, Bool, true, not, ◌&&◌, ◌||◌, ltb, eqb, if◌then◌else◌}
 use Rattle.figures.specs.Types.{Tokens, Account, Counted, Purse, Credit, ToCounter, ToPurse, Right, Load, Settlement, Within, Past}
 use Rattle.figures.specs.declared.loads.Total.{Total}
 use Rattle.figures.specs.declared.loads.Total.TheVariants.{Sum, Over}

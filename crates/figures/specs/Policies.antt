@@ -1,6 +1,5 @@
 -- The table of 01, Rights: which SPE is for what, pays from what, and how far its counter goes.
-use Rattle.std.specs.Prelude.{ℕ, Bool, ◌||◌, eqb}
-use Rattle.places.specs.Words.{if◌then◌else◌}
+use Rattle.std.specs.Prelude.{ℕ, Bool, ◌||◌, eqb, if◌then◌else◌}
 use Rattle.figures.specs.Limits.{live_purse, playback_purse, deletion, live_counted, playback_counted, live_limit, playback_limit, purse_limit}
 use Rattle.figures.specs.Types.{Tokens, TrafficKeys}
 

@@ -1,7 +1,6 @@
 -- One right: a free place, the tests of look-ups, fitting a message, and what a grant leaves.
-use Rattle.std.specs.Prelude.{Bool, false, not, ◌&&◌}
+use Rattle.std.specs.Prelude.{Bool, false, not, ◌&&◌, if◌then◌else◌}
 use Rattle.std.specs.Bool.{beq}
-use Rattle.places.specs.Words.{if◌then◌else◌}
 use Rattle.figures.specs.Limits.{no_spe}
 use Rattle.figures.specs.Types.{Timestamp, KeyId, RightName, Counted, Right, Message, WantedRight, Named, OfId, FreeRight}
 use Rattle.figures.specs.Names.{same_id, same_name, no_id, covers, live}

@@ -9,7 +9,7 @@ use borrow.Author.Tests.{ltb-true}
 use native.Mathlib.Omega.{arith}
 use mir.Val.{Val}
 use denote.Laws.{Is}
-use Rattle.places.specs.Words.{if◌then◌else◌}
+use Rattle.std.specs.Prelude.{if◌then◌else◌}
 use Rattle.figures.specs.Limits.{key_bytes}
 use Rattle.figures.specs.Keys.{zeros}
 use Rattle.frames.specs.Types.{Frame, Seen, Whole, Unread, Refusal, Unreadable, BufferLength, Unwritten}

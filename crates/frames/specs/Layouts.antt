@@ -1,6 +1,5 @@
 -- The table of 01, Frames: the kinds, the widths of their fields in order, and the whole lengths that follow.
-use Rattle.std.specs.Prelude.{ℕ, ◌+◌, ◌/◌, ◌%◌, ◌^◌, Bool, false, List, [], ◌∷◌, ◌++◌, eqb}
-use Rattle.places.specs.Words.{if◌then◌else◌}
+use Rattle.std.specs.Prelude.{ℕ, ◌+◌, ◌/◌, ◌%◌, ◌^◌, Bool, false, List, [], ◌∷◌, ◌++◌, eqb, if◌then◌else◌}
 use Rattle.figures.specs.Limits.{key_bytes}
 use Rattle.frames.specs.Types.{Frame, LoadFrame, MessageFrame, ReportFrame, DeleteFrame}
 use Rattle.frames.specs.Numbers.{total}

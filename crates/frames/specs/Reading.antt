@@ -1,6 +1,5 @@
 -- What a byte string reads as: 01, Frames.
-use Rattle.std.specs.Prelude.{ℕ, Bool, ◌&&◌, List, length, get_or, take, drop, eqb, ltb}
-use Rattle.places.specs.Words.{if◌then◌else◌}
+use Rattle.std.specs.Prelude.{ℕ, Bool, ◌&&◌, List, length, get_or, take, drop, eqb, ltb, if◌then◌else◌}
 use Rattle.figures.specs.Limits.{key_bytes}
 use Rattle.figures.specs.Keys.{zeros}
 use Rattle.frames.specs.Types.{KeyId, RightName, Flags, Load, Message, Unreadable, LoadFrame, MessageFrame, ReportFrame, DeleteFrame, Seen, Whole, Unread, ReadFrame}
@@ -68,10 +67,10 @@ is_right k s = is_kind k s && eqb (length s) (total right_widths)
 unfoldable pub seen : List ℕ → Seen
 seen s =
     if is_load s then Whole (LoadFrame (load_from (split load_widths 0 s)))
-    else if is_message s then Whole (MessageFrame (message_from (split message_widths 0 s)))
-    else if is_right report_kind s then Whole (ReportFrame (name_from (split right_widths 0 s)))
-    else if is_right delete_kind s then Whole (DeleteFrame (name_from (split right_widths 0 s)))
-    else Unread Unreadable
+    else (if is_message s then Whole (MessageFrame (message_from (split message_widths 0 s)))
+    else (if is_right report_kind s then Whole (ReportFrame (name_from (split right_widths 0 s)))
+    else (if is_right delete_kind s then Whole (DeleteFrame (name_from (split right_widths 0 s)))
+    else Unread Unreadable)))
 
 -- 01, Frames: a load whose flag bit 1 is set
 abbrev pub key_present : List ℕ → Bool

@@ -1,6 +1,5 @@
 -- The words of the round trips.
-use Rattle.std.specs.Prelude.{ℕ, ◌<◌, ◌^◌, List, [], ◌∷◌, ◌++◌, length, drop, ltb}
-use Rattle.places.specs.Words.{if◌then◌else◌}
+use Rattle.std.specs.Prelude.{ℕ, ◌<◌, ◌^◌, List, [], ◌∷◌, ◌++◌, length, drop, ltb, if◌then◌else◌}
 use Rattle.figures.specs.Keys.{zeros}
 use Rattle.frames.specs.Types.{Frame, ReadFrame, Seen, Whole, Unread, Count, Unwritten}
 use Rattle.frames.specs.Layouts.{widths_of, has_key}

@@ -1,6 +1,5 @@
 -- What a frame is written as: 01, Frames.
-use Rattle.std.specs.Prelude.{ℕ, ◌+◌, Bool, List, [], ◌∷◌, ◌++◌, length, drop, ltb}
-use Rattle.places.specs.Words.{if◌then◌else◌}
+use Rattle.std.specs.Prelude.{ℕ, ◌+◌, Bool, List, [], ◌∷◌, ◌++◌, length, drop, ltb, if◌then◌else◌}
 use Rattle.frames.specs.Types.{KeyId, RightName, Flags, Load, Message, BufferLength, Frame, LoadFrame, MessageFrame, ReportFrame, DeleteFrame, Written, Count, Unwritten}
 use Rattle.frames.specs.Numbers.{join}
 use Rattle.frames.specs.Layouts.{load_kind, message_kind, report_kind, delete_kind, widths_of, has_key, whole_length}

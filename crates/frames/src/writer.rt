@@ -1,7 +1,6 @@
 // The frame writer: 01, Frames.
-ghost use Rattle.std.specs.Prelude.{◌≡◌, ◌+◌, ◌≤◌, length};
+ghost use Rattle.std.specs.Prelude.{◌≡◌, ◌+◌, ◌≤◌, length, if◌then◌else◌};
 ghost use Rattle.std.proofs.lemmas.List.Edits.{sets};
-ghost use Rattle.places.specs.Words.{if◌then◌else◌};
 ghost use Rattle.figures.specs.Limits.{key_bytes};
 ghost use Rattle.frames.specs.Types.{LoadFrame};
 ghost use Rattle.frames.specs.Numbers.{bytes, join, total};

@@ -7,7 +7,7 @@ use native.Mathlib.Omega.{arith}
 use borrow.Author.Tests.{le-leb, lt-leb, le-ltb, ne_eqb}
 use lib.Dec.{eqb, ltb}
 use lib.ListN.{length, length-append}
-use Rattle.places.specs.Words.{if◌then◌else◌}
+use Rattle.std.specs.Prelude.{if◌then◌else◌}
 use Rattle.rules.specs.Pages.{Pages, empty_book}
 use Rattle.rules.specs.Calls.{unchanged}
 use Rattle.lines.specs.Types.{Refused, Unreadable}

@@ -11,7 +11,7 @@ use borrow.Author.Tests.{lt-ltb, le-ltb, ltb-true, ltb-false, ne_eqb}
 use lib.ListN.{length, take, drop, replicate, length-append, length-set}
 use lib.Seq.{take_all, take_at, take-suc-set, take-append-le, length-take-le}
 use lib.Dec.{ltb, eqb}
-use Rattle.places.specs.Words.{if◌then◌else◌}
+use Rattle.std.specs.Prelude.{if◌then◌else◌}
 use Rattle.places.proofs.Lists.{by_test}
 use Rattle.figures.specs.Limits.{line_digits}
 use Rattle.rules.specs.Pages.{Pages}

@@ -7,7 +7,7 @@ use native.Mathlib.Omega.{arith}
 use lib.Dec.{ltb, eqb}
 use lib.ListN.{length, take, drop, length-append, length-take, length-drop}
 use lib.Seq.{length-take-le}
-use Rattle.places.specs.Words.{if◌then◌else◌}
+use Rattle.std.specs.Prelude.{if◌then◌else◌}
 use Rattle.lines.specs.Types.{Fed}
 use Rattle.lines.specs.Hex.{line_feed, reply_line}
 use Rattle.lines.specs.Feeding.{Between, wants, next, prints, Run, run, still, onward, Left, left, laid, feeding, finishing}

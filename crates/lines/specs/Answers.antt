@@ -1,6 +1,5 @@
 -- The answer to a line: 01, The line program.
-use Rattle.std.specs.Prelude.{ℕ, ◌≡◌, List, replicate}
-use Rattle.places.specs.Words.{if◌then◌else◌}
+use Rattle.std.specs.Prelude.{ℕ, ◌≡◌, List, replicate, if◌then◌else◌}
 use Rattle.figures.specs.Limits.{key_bytes}
 use Rattle.rules.specs.Pages.{Pages}
 use Rattle.rules.specs.Calls.{After, unchanged}

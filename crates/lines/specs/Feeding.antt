@@ -1,6 +1,5 @@
 -- What a run of characters makes of a state, and what it prints.
-use Rattle.std.specs.Prelude.{ℕ, suc, ◌+◌, ◌-◌, List, [], ◌∷◌, ◌++◌, length, take, drop, set, replicate, ltb, eqb}
-use Rattle.places.specs.Words.{if◌then◌else◌}
+use Rattle.std.specs.Prelude.{ℕ, suc, ◌+◌, ◌-◌, List, [], ◌∷◌, ◌++◌, length, take, drop, set, replicate, ltb, eqb, if◌then◌else◌}
 use Rattle.figures.specs.Limits.{line_digits}
 use Rattle.rules.specs.Pages.{Pages, empty_book}
 use Rattle.rules.specs.Calls.{After}

@@ -1,6 +1,5 @@
 -- A line of upper-case hexadecimal as bytes, and a reply as such a line: 01, The line program.
-use Rattle.std.specs.Prelude.{ℕ, ◌+◌, ◌-◌, ◌*◌, ◌/◌, ◌%◌, Bool, true, not, ◌&&◌, ◌||◌, List, [], ◌∷◌, ◌++◌, length, drop, replicate, ltb, leb, eqb}
-use Rattle.places.specs.Words.{if◌then◌else◌}
+use Rattle.std.specs.Prelude.{ℕ, ◌+◌, ◌-◌, ◌*◌, ◌/◌, ◌%◌, Bool, true, not, ◌&&◌, ◌||◌, List, [], ◌∷◌, ◌++◌, length, drop, replicate, ltb, leb, eqb, if◌then◌else◌}
 use Rattle.figures.specs.Limits.{line_digits, reply_widths}
 use Rattle.frames.specs.Numbers.{total}
 use Rattle.rules.specs.Replies.{reply_bytes}
@@ -15,8 +14,8 @@ line_feed = 10
 unfoldable pub digit_value : ℕ → ℕ
 digit_value c =
     if leb 48 c && leb c 57 then c - 48
-    else if leb 65 c && leb c 70 then c - 65 + 10
-    else 16
+    else (if leb 65 c && leb c 70 then c - 65 + 10
+    else 16)
 
 abbrev pub is_digit : ℕ → Bool
 is_digit c = ltb (digit_value c) 16

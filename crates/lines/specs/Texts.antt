@@ -1,6 +1,5 @@
 -- A whole text: its lines, the replies to them in order, and what is printed: 01, The line program.
-use Rattle.std.specs.Prelude.{ℕ, ◌≤◌, ◌≡◌, List, [], ◌∷◌, ◌++◌, length, take, drop, eqb}
-use Rattle.places.specs.Words.{if◌then◌else◌}
+use Rattle.std.specs.Prelude.{ℕ, ◌≤◌, ◌≡◌, List, [], ◌∷◌, ◌++◌, length, take, drop, eqb, if◌then◌else◌}
 use Rattle.rules.specs.Pages.{Pages}
 use Rattle.lines.specs.Types.{Reply}
 use Rattle.lines.specs.Hex.{line_feed, printed, reply_line}

@@ -10,7 +10,8 @@ use mathlib.Core.List.{List, [], ◌∷◌, map}
 use lib.ListN.{length, get_or, set, get_or-map, length-set, replicate}
 use lib.Seq.{get_or-set_same}
 use Rattle.places.specs.Types.{Found, At, Nowhere}
-use Rattle.places.specs.Words.{all_words, if◌then◌else◌, first, at, put, put_all, or_else, missing, next, Unique, Clean}
+use Rattle.std.specs.Prelude.{if◌then◌else◌}
+use Rattle.places.specs.Words.{all_words, first, at, put, put_all, or_else, missing, next, Unique, Clean}
 
 module _ {A B : Type 0} (f : A → B) where
   pub if_map : (t : Bool) (x y : A) → (if t then f x else f y) ≡ f (if t then x else y)

@@ -8,7 +8,8 @@ use mathlib.Core.List.{List, [], ◌∷◌, ◌++◌}
 use lib.ListN.{length, get_or, set, drop, take, drop_of_length-le}
 use lib.Seq.{drop-cons, take-suc, take-suc-set, take_all, get_or-set_same}
 use Rattle.places.specs.Types.{Found, At, Nowhere}
-use Rattle.places.specs.Words.{next, if◌then◌else◌, first, at, put, put_all, missing, or_else}
+use Rattle.std.specs.Prelude.{if◌then◌else◌}
+use Rattle.places.specs.Words.{next, first, at, put, put_all, missing, or_else}
 
 -- a place counted from i
 abbrev pub past : ℕ → Found → Found

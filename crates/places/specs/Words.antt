@@ -1,12 +1,6 @@
--- The words that the rules are written in: choice, and places in a list of any length and any element.
-use Rattle.std.specs.Prelude.{ℕ, suc, ◌≡◌, Bool, true, false, List, [], ◌∷◌, get_or, set}
+-- The words that the rules are written in: places in a list of any length and any element.
+use Rattle.std.specs.Prelude.{ℕ, suc, ◌≡◌, Bool, true, false, List, [], ◌∷◌, get_or, set, if◌then◌else◌}
 use Rattle.places.specs.Types.{Found, At, Nowhere, Verdict, Passed, Failed}
-
-module _ {A : Type 0} where
-  infixr 10 if◌then◌else◌
-  abbrev pub if◌then◌else◌ : Bool → A → A → A
-  if true then a else b = a
-  if false then a else b = b
 
 -- ## What a check's answer says of a refusal's test
 

@@ -7,7 +7,8 @@ use mathlib.Core.Bool.{Bool, true, false}
 use mathlib.Core.List.{List}
 use lib.ListN.{length, get_or, length-replicate}
 use borrow.Author.Tests.{ltb-false, le-leb, leb-true}
-use Rattle.places.specs.Words.{if◌then◌else◌, first, at, put, put_all, missing, Unique, Clean}
+use Rattle.std.specs.Prelude.{if◌then◌else◌}
+use Rattle.places.specs.Words.{first, at, put, put_all, missing, Unique, Clean}
 use Rattle.places.proofs.Lists.{clash, by_test, has_not, put_elim, put_cases, put_all_elim, first-put, first-put_all, first-put-at, room_holds, first_sat, at_all, room_put_has, length-put, length-put_all, clean_put, clean_put_all, unique_put, unique_put_same, unique_put_all, unique_first, get_or-blank, fewer_put, fewer_put_all}
 use Rattle.places.proofs.Tests.{if_elim, and_left, and_right, and_both, not_held}
 use Rattle.figures.specs.Limits.{key_bytes, purse_limit}

@@ -7,7 +7,8 @@ use mathlib.Core.List.{List}
 use lib.ListN.{length}
 use lib.Dec.{leb, ltb}
 use borrow.Author.Tests.{ltb-true, ltb-false, leb-true, le-leb, eq-eqb, ne_eqb}
-use Rattle.places.specs.Words.{if◌then◌else◌, first, at, put, or_else, missing}
+use Rattle.std.specs.Prelude.{if◌then◌else◌}
+use Rattle.places.specs.Words.{first, at, put, or_else, missing}
 use Rattle.places.proofs.Lists.{clash, present, absent, first-none, has, has_not, put_all_elim, get_or-blank}
 use Rattle.places.proofs.Walks.{put_same}
 use Rattle.places.proofs.Tests.{if_elim, and_left, and_right}

@@ -6,7 +6,7 @@ use Prim.Native.String.{String}
 use mathlib.Core.List.{List, [], ◌∷◌, ◌++◌, map}
 use lib.ListN.{replicate}
 use lib.Dec.{ltb}
-use Rattle.places.specs.Words.{if◌then◌else◌}
+use Rattle.std.specs.Prelude.{if◌then◌else◌}
 use Rattle.figures.specs.Limits.{key_bytes}
 use Rattle.rules.specs.Pages.{Pages, empty_book}
 use Rattle.rules.specs.Calls.{After}

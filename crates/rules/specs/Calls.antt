@@ -1,6 +1,5 @@
 -- A call is an ordered list of refusals, and what is done where none applies: 01, Replies.
-use Rattle.std.specs.Prelude.{ℕ, Bool, List, [], ◌∷◌}
-use Rattle.places.specs.Words.{if◌then◌else◌}
+use Rattle.std.specs.Prelude.{ℕ, Bool, List, [], ◌∷◌, if◌then◌else◌}
 use Rattle.rules.specs.Types.{Reply}
 use Rattle.rules.specs.Pages.{Pages}
 

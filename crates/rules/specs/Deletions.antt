@@ -1,6 +1,6 @@
 -- Reports, and deletion of one right or of a key with all its rights: 01, Rights, What a load does, and Replies (12, 13, 1B).
-use Rattle.std.specs.Prelude.{ℕ, Bool, not, List, []}
-use Rattle.places.specs.Words.{if◌then◌else◌, first, put, put_all, missing}
+use Rattle.std.specs.Prelude.{ℕ, Bool, not, List, [], if◌then◌else◌}
+use Rattle.places.specs.Words.{first, put, put_all, missing}
 use Rattle.figures.specs.Policies.{holds_right}
 use Rattle.figures.specs.Rights.{free_right, is_of}
 use Rattle.figures.specs.Keys.{free_key}

@@ -1,6 +1,6 @@
 -- What a load does, other than with SPE 0A: 01, What a load does, and Replies (12, 13, 14, 15, 16, 17).
-use Rattle.std.specs.Prelude.{ℕ, Bool, not, ◌&&◌, List, []}
-use Rattle.places.specs.Words.{if◌then◌else◌, put, missing}
+use Rattle.std.specs.Prelude.{ℕ, Bool, not, ◌&&◌, List, [], if◌then◌else◌}
+use Rattle.places.specs.Words.{put, missing}
 use Rattle.figures.specs.Names.{empty}
 use Rattle.figures.specs.Policies.{holds_right}
 use Rattle.figures.specs.Keys.{loaded_key}

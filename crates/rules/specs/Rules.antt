@@ -1,6 +1,5 @@
 -- Every call: 01, Replies.
-use Rattle.std.specs.Prelude.{ℕ, not, List, [], length, eqb}
-use Rattle.places.specs.Words.{if◌then◌else◌}
+use Rattle.std.specs.Prelude.{ℕ, not, List, [], length, eqb, if◌then◌else◌}
 use Rattle.figures.specs.Limits.{key_bytes}
 use Rattle.figures.specs.Policies.{is_deletion}
 use Rattle.frames.specs.Reading.{reading}
