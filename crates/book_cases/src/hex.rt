@@ -1,5 +1,5 @@
 // Upper-case hexadecimal, two digits a byte.
-ghost use Rattle.io.specs.Counts.{IsPrefixLen};
+ghost use Rattle.std.specs.Prelude.{◌≤◌, length};
 
 // One byte more than the longest string of a case has.
 pub const ROOM: usize = 44;
@@ -28,10 +28,9 @@ fn digit(text: &[u8], at: usize) -> u8 {
 
 // The bytes after a mark and a space, up to a character that is no digit. Answers how many.
 pub fn bytes_after(text: &[u8], out: &mut [u8]) -> usize
-    ensures { IsPrefixLen result out.new }
+    ensures { result ≤ length out.new }
 {
-    let mut n = 0;
-    while n < out.len() {
+    for n in 0..out.len() {
         let high = digit(text, 2 * n + 2);
         let low = digit(text, 2 * n + 3);
         if high >= NO_DIGIT {
@@ -41,9 +40,8 @@ pub fn bytes_after(text: &[u8], out: &mut [u8]) -> usize
             return n;
         }
         out[n] = high * 16 + low;
-        n += 1;
     }
-    n
+    out.len()
 }
 
 // A byte's two digits.

@@ -4,84 +4,100 @@
 mod hex;
 mod show;
 
-ghost use Rattle.io.specs.Counts.{IsPrefixLen};
+ghost use Rattle.std.specs.Prelude.{◌≤◌, length};
 
 use book::Book;
 use book::replies::reply_bytes;
 use hex::{ROOM, bytes_after};
+use std::io;
+use std::io::{BufWriter, Read, Write};
 
-// The longest standard input.
-const LONGEST: usize = 131072;
+// The longest standard input: what stands after it isn't read.
+const LONGEST: u64 = 131072;
 
 // The buffer that a line lends if it names none.
 const USUAL: [u8; 34] = *b"; EEEEEEEEEEEEEEEEEEEEEEEEEEEEEEEE";
 
 // How many bytes stand before the first such mark, or in all.
 fn upto(text: &[u8], mark: u8) -> usize
-    ensures { IsPrefixLen result text.now }
+    ensures { result ≤ length text.now }
 {
-    let mut i = 0;
-    while i < text.len() {
-        if text[i] == mark {
+    for (i, c) in text.iter().enumerate() {
+        if *c == mark {
             return i;
         }
-        i += 1;
     }
-    i
+    text.len()
 }
 
 // One call, printed after its label.
-fn call(book: Book, frame: &[u8], key: &mut [u8]) -> Book {
-    show::text(b": ");
-    show::string(frame);
+fn call<W: Write>(out: &mut W, book: Book, frame: &[u8], key: &mut [u8]) -> io::Result<Book> {
+    show::text(out, b": ")?;
+    show::string(out, frame)?;
     let called = book.call(frame, key);
     let reply = called.reply;
     let bytes = reply_bytes(reply);
-    show::text(b" answers ");
-    show::string(&bytes);
-    show::text(b", buffer ");
-    show::string(key);
-    called.book
+    show::text(out, b" answers ")?;
+    show::string(out, &bytes)?;
+    show::text(out, b", buffer ")?;
+    show::string(out, key)?;
+    Ok(called.book)
 }
 
 // One case: its label, its frame and the buffer it lends.
-fn case(book: Book, label: &[u8], frame: &[u8], buffer: &[u8]) -> Book {
+fn case<W: Write>(
+    out: &mut W,
+    book: Book,
+    label: &[u8],
+    frame: &[u8],
+    buffer: &[u8],
+) -> io::Result<Book> {
     let mut bytes = [0; ROOM];
     let mut key = [0; ROOM];
     let n = bytes_after(frame, &mut bytes);
     let m = bytes_after(buffer, &mut key);
-    show::text(label);
-    call(book, &bytes[..n], &mut key[..m])
+    show::text(out, label)?;
+    call(out, book, &bytes[..n], &mut key[..m])
 }
 
 // A line without a colon is a heading, after which the book is empty. Any other is a case: `label: FRAME`, or `label: FRAME; BUFFER`.
-fn line(book: Book, line: &[u8]) -> Book {
+fn line<W: Write>(out: &mut W, book: Book, line: &[u8]) -> io::Result<Book> {
     let colon = upto(line, b':');
     let semicolon = upto(line, b';');
     if colon == line.len() {
-        show::text(line);
-        return Book::empty();
+        show::text(out, line)?;
+        return Ok(Book::empty());
     }
     if semicolon == line.len() {
-        return case(book, &line[..colon], &line[colon..], &USUAL);
+        return case(out, book, &line[..colon], &line[colon..], &USUAL);
     }
-    case(book, &line[..colon], &line[colon..], &line[semicolon..])
+    case(
+        out,
+        book,
+        &line[..colon],
+        &line[colon..],
+        &line[semicolon..],
+    )
 }
 
 // Each line in turn.
-fn run(text: &[u8]) {
+fn run<W: Write>(out: &mut W, text: &[u8]) -> io::Result<()> {
     let mut book = Book::empty();
     let mut at = 0;
     while at < text.len() {
         let end = at + upto(&text[at..], b'\n');
-        book = line(book, &text[at..end]);
-        show::text(b"\n");
+        book = line(out, book, &text[at..end])?;
+        show::text(out, b"\n")?;
         at = end + 1;
     }
+    Ok(())
 }
 
-fn main() {
-    let mut text = [0u8; LONGEST];
-    let n = io::read_full(libc::STDIN_FILENO, &mut text);
-    run(&text[..n]);
+fn main(rt: HostRuntime) -> io::Result<()> {
+    let alloc = rt.alloc();
+    let mut text = Vec::new(alloc);
+    rt.stdin().take(LONGEST).read_to_end(&mut text)?;
+    let mut out = BufWriter::new(alloc, rt.stdout())?;
+    run(&mut out, &text)?;
+    out.flush()
 }

@@ -1,19 +1,19 @@
 // Prints text, and byte strings in upper-case hexadecimal.
 use crate::hex::digits;
-use libc::STDOUT_FILENO;
+use std::io;
+use std::io::Write;
 
-pub fn text(words: &[u8]) {
-    io::write_all(STDOUT_FILENO, words);
+pub fn text<W: Write>(out: &mut W, words: &[u8]) -> io::Result<()> {
+    out.write_all(words)
 }
 
-fn byte(byte: u8) {
-    text(&digits(byte));
+fn byte<W: Write>(out: &mut W, byte: u8) -> io::Result<()> {
+    text(out, &digits(byte))
 }
 
-pub fn string(bytes: &[u8]) {
-    let mut i = 0;
-    while i < bytes.len() {
-        byte(bytes[i]);
-        i += 1;
+pub fn string<W: Write>(out: &mut W, bytes: &[u8]) -> io::Result<()> {
+    for b in bytes {
+        byte(out, *b)?;
     }
+    Ok(())
 }

@@ -2,68 +2,32 @@
 #![tactic(auto)]
 
 ghost use Rattle.std.specs.Prelude.{◌≤◌, length};
+ghost use Rattle.std.specs.Io.{ReadsAtMost};
 ghost use Rattle.lines.specs.Hex.{reply_line};
 
-use libc::{EINTR, STDIN_FILENO, STDOUT_FILENO};
+use anyhow::{Context, Result};
 use lines::State;
+use std::io;
+use std::io::{ErrorKind, Read, Write};
 
-// The state after a part of the input, and whether all went well so far.
-#[derive(Clone, Copy)]
-struct Done {
-    state: State,
-    well: bool,
-}
+// The bytes of a buffer: 64 KiB.
+const ROOM: usize = 65536;
 
-// One read: how many bytes came, 0 at the end, below 0 where it failed. An interrupted read is made again.
-fn read(buf: &mut [u8]) -> isize {
-    let mut tries = u64::MAX;
-    while tries > 0 {
-        let got = libc::read(STDIN_FILENO, buf);
-        if got >= 0 {
-            return got;
-        }
-        if os::errno() != EINTR {
-            return got;
-        }
-        tries -= 1;
-    }
-    -1
-}
-
-// One write: how many bytes went, 0 where it failed. An interrupted write is made again.
-fn write(text: &[u8]) -> usize
-    ensures { result ≤ length text.now }
+// One read: how many bytes came, 0 at the end. An interrupted read is made again.
+fn read<R: Read>(input: &mut R, buf: &mut [u8]) -> io::Result<usize>
+    ensures { ReadsAtMost result buf.new }
 {
-    let mut tries = u64::MAX;
-    while tries > 0 {
-        let put = libc::write(STDOUT_FILENO, text);
-        if put >= 0 {
-            return io::count(put, text);
+    for _ in 0..u64::MAX {
+        match input.read(buf) {
+            Err(e) if e.kind() == ErrorKind::Interrupted => {}
+            come => return come,
         }
-        if os::errno() != EINTR {
-            return 0;
-        }
-        tries -= 1;
     }
-    0
-}
-
-// Writes all of the text, or says on standard error that it cannot.
-fn write_all(text: &[u8]) -> bool {
-    let mut at = 0;
-    while at < text.len() {
-        let put = write(&text[at..]);
-        if put == 0 {
-            os::fail(b"bookrun: standard output");
-            return false;
-        }
-        at += put;
-    }
-    true
+    input.read(buf)
 }
 
 // Answers all of a chunk. There is a write whenever the replies fill the buffer, and one at the end.
-fn answer(state: State, input: &[u8], out: &mut [u8]) -> Done
+fn answer<W: Write>(output: &mut W, state: State, input: &[u8], out: &mut [u8]) -> io::Result<State>
     requires { reply_line ≤ length out.old }
 {
     let mut state = state;
@@ -73,60 +37,53 @@ fn answer(state: State, input: &[u8], out: &mut [u8]) -> Done
         let used = fed.used;
         let made = fed.made;
         state = fed.state;
-        if !write_all(&out[..made]) {
-            return Done { state, well: false };
-        }
+        output.write_all(&out[..made])?;
         at += used;
     }
-    Done { state, well: true }
+    Ok(state)
 }
 
-// Answers all whole lines. A proved loop has to end, and nothing says that the input does: it counts down from a number that no run uses up.
-fn pump(state: State, buf: &mut [u8], out: &mut [u8]) -> Done
+// Answers all whole lines. A proved loop has to end, and nothing says that the input does: it counts to a number that no run reaches.
+fn pump<R: Read, W: Write>(
+    input: &mut R,
+    output: &mut W,
+    state: State,
+    buf: &mut [u8],
+    out: &mut [u8],
+) -> Result<State>
     requires { reply_line ≤ length out.old }
     ensures { reply_line ≤ length out.new }
 {
-    let mut done = Done { state, well: true };
-    let mut turns = u64::MAX;
-    while turns > 0 {
-        let got = read(buf);
-        if got == 0 {
-            return done;
+    let mut state = state;
+    for _ in 0..u64::MAX {
+        let n = read(input, buf).context("bookrun: standard input")?;
+        if n == 0 {
+            break;
         }
-        if got < 0 {
-            os::fail(b"bookrun: standard input");
-            done.well = false;
-            return done;
-        }
-        let n = io::count(got, buf);
-        done = answer(done.state, &buf[..n], out);
-        if !done.well {
-            return done;
-        }
-        turns -= 1;
+        state = answer(output, state, &buf[..n], out).context("bookrun: standard output")?;
     }
-    done
+    Ok(state)
 }
 
-fn run(buf: &mut [u8], out: &mut [u8])
+fn run<R: Read, W: Write>(
+    input: &mut R,
+    output: &mut W,
+    buf: &mut [u8],
+    out: &mut [u8],
+) -> Result<()>
     requires { reply_line ≤ length out.old }
 {
-    let done = pump(lines::start(), buf, out);
-    if !done.well {
-        return;
-    }
-    let fed = lines::finish(done.state, out);
+    let state = pump(input, output, lines::start(), buf, out)?;
+    let fed = lines::finish(state, out);
     let made = fed.made;
-    if !write_all(&out[..made]) {
-        return;
-    }
-    if libc::close(STDOUT_FILENO) < 0 {
-        os::fail(b"bookrun: standard output");
-    }
+    output
+        .write_all(&out[..made])
+        .context("bookrun: standard output")?;
+    output.flush().context("bookrun: standard output")
 }
 
-fn main() {
-    let mut buf = io::large_buffer();
-    let mut out = io::large_buffer();
-    run(&mut buf, &mut out);
+fn main(rt: HostRuntime) -> Result<()> {
+    let mut buf = [0u8; ROOM];
+    let mut out = [0u8; ROOM];
+    run(&mut rt.stdin(), &mut rt.stdout(), &mut buf, &mut out)
 }

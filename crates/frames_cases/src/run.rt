@@ -4,6 +4,8 @@ use frames::Frame;
 use frames::reader::read;
 use frames::round_trips::{read_and_written, written_and_read};
 use frames::writer::write;
+use std::io;
+use std::io::Write;
 
 // One byte more than the longest string that a case reads or writes.
 const ROOM: usize = 44;
@@ -30,75 +32,91 @@ fn sample(kind: u8, at: usize, value: u8) -> [u8; ROOM] {
     bytes
 }
 
-fn read_line(bytes: &[u8]) {
-    show::text(b"read ");
-    show::string(bytes);
-    show::text(b": ");
-    show::read(read(bytes));
-    show::text(b"\n");
+fn read_line<W: Write>(out: &mut W, bytes: &[u8]) -> io::Result<()> {
+    show::text(out, b"read ")?;
+    show::string(out, bytes)?;
+    show::text(out, b": ")?;
+    show::read(out, read(bytes))?;
+    show::text(out, b"\n")
 }
 
 // Reads the first n bytes of a sample.
-pub fn read_case(kind: u8, at: usize, value: u8, n: usize) {
+pub fn read_case<W: Write>(
+    out: &mut W,
+    kind: u8,
+    at: usize,
+    value: u8,
+    n: usize,
+) -> io::Result<()> {
     let bytes = sample(kind, at, value);
     if n <= ROOM {
-        read_line(&bytes[..n]);
+        read_line(out, &bytes[..n])?;
     }
+    Ok(())
 }
 
-fn write_line(frame: Frame, buffer: &mut [u8]) {
-    show::text(b"write ");
-    show::frame(frame);
-    show::text(b" into ");
-    show::decimal(buffer.len());
-    show::text(b": ");
+fn write_line<W: Write>(out: &mut W, frame: Frame, buffer: &mut [u8]) -> io::Result<()> {
+    show::text(out, b"write ")?;
+    show::frame(out, frame)?;
+    show::text(out, b" into ")?;
+    show::decimal(out, buffer.len())?;
+    show::text(out, b": ")?;
     let answer = write(frame, GIVEN, buffer);
-    show::written(answer, buffer);
+    show::written(out, answer, buffer)
 }
 
 // Writes into n bytes EE.
-pub fn write_case(frame: Frame, n: usize) {
+pub fn write_case<W: Write>(out: &mut W, frame: Frame, n: usize) -> io::Result<()> {
     let mut buffer = [0xEE; ROOM];
     if n <= ROOM {
-        write_line(frame, &mut buffer[..n]);
+        write_line(out, frame, &mut buffer[..n])?;
     }
+    Ok(())
 }
 
 // Into no byte, one too few, just enough and one more.
-pub fn write_cases(frame: Frame, short: u8) {
+pub fn write_cases<W: Write>(out: &mut W, frame: Frame, short: u8) -> io::Result<()> {
     let n = short as usize;
-    write_case(frame, 0);
-    write_case(frame, n);
-    write_case(frame, n + 1);
-    write_case(frame, n + 2);
+    write_case(out, frame, 0)?;
+    write_case(out, frame, n)?;
+    write_case(out, frame, n + 1)?;
+    write_case(out, frame, n + 2)
 }
 
-fn copy_line(bytes: &[u8], buffer: &mut [u8]) {
-    show::text(b"copy ");
-    show::string(bytes);
-    show::text(b" into ");
-    show::decimal(buffer.len());
-    show::text(b": ");
+fn copy_line<W: Write>(out: &mut W, bytes: &[u8], buffer: &mut [u8]) -> io::Result<()> {
+    show::text(out, b"copy ")?;
+    show::string(out, bytes)?;
+    show::text(out, b" into ")?;
+    show::decimal(out, buffer.len())?;
+    show::text(out, b": ")?;
     let answer = read_and_written(bytes, buffer);
-    show::written(answer, buffer);
+    show::written(out, answer, buffer)
 }
 
 // Reads the first n bytes of a sample and writes what was read into m bytes EE.
-pub fn copy_case(kind: u8, at: usize, value: u8, n: usize, m: usize) {
+pub fn copy_case<W: Write>(
+    out: &mut W,
+    kind: u8,
+    at: usize,
+    value: u8,
+    n: usize,
+    m: usize,
+) -> io::Result<()> {
     let bytes = sample(kind, at, value);
     let mut buffer = [0xEE; ROOM];
     if n <= ROOM {
         if m <= ROOM {
-            copy_line(&bytes[..n], &mut buffer[..m]);
+            copy_line(out, &bytes[..n], &mut buffer[..m])?;
         }
     }
+    Ok(())
 }
 
 // Writes and reads back.
-pub fn back_case(frame: Frame) {
-    show::text(b"back ");
-    show::frame(frame);
-    show::text(b": ");
-    show::read(written_and_read(frame, GIVEN));
-    show::text(b"\n");
+pub fn back_case<W: Write>(out: &mut W, frame: Frame) -> io::Result<()> {
+    show::text(out, b"back ")?;
+    show::frame(out, frame)?;
+    show::text(out, b": ")?;
+    show::read(out, written_and_read(frame, GIVEN))?;
+    show::text(out, b"\n")
 }

@@ -1,52 +1,35 @@
 // The cases of this folder's stdin, fed one character at a time with room for one reply.
 #![tactic(auto)]
 
-use libc::{STDIN_FILENO, STDOUT_FILENO};
 use lines::State;
 use lines::hex::REPLY_LINE;
+use std::io;
+use std::io::{BufReader, BufWriter, Read, Write};
 
-#[derive(Clone, Copy)]
-struct Turn {
-    state: State,
-    more: bool,
-}
-
-// One character, if there is one, and what it prints.
-fn step(state: State) -> Turn {
-    let mut input = [0u8; 1];
-    let mut out = [0u8; REPLY_LINE];
-    let n = io::read_full(STDIN_FILENO, &mut input);
-    let fed = lines::feed(state, &input[..n], &mut out);
+// One character, and what it prints.
+fn step<W: Write>(out: &mut W, state: State, c: u8) -> io::Result<State> {
+    let mut text = [0u8; REPLY_LINE];
+    let fed = lines::feed(state, &[c], &mut text);
     let made = fed.made;
-    let next = fed.state;
-    Turn {
-        state: next,
-        more: io::write_all(STDOUT_FILENO, &out[..made]) & (n == 1),
-    }
+    out.write_all(&text[..made])?;
+    Ok(fed.state)
 }
 
 // The last line.
-fn end(state: State) {
-    let mut out = [0u8; REPLY_LINE];
-    let fed = lines::finish(state, &mut out);
+fn end<W: Write>(out: &mut W, state: State) -> io::Result<()> {
+    let mut text = [0u8; REPLY_LINE];
+    let fed = lines::finish(state, &mut text);
     let made = fed.made;
-    io::write_all(STDOUT_FILENO, &out[..made]);
+    out.write_all(&text[..made])
 }
 
-// The turns are more than any input needs.
-fn main() {
-    let mut now = Turn {
-        state: lines::start(),
-        more: true,
-    };
-    let mut turns = u64::MAX;
-    while turns > 0 {
-        now = step(now.state);
-        if now.more {
-            turns -= 1;
-        } else {
-            turns = 0;
-        }
+fn main(rt: HostRuntime) -> io::Result<()> {
+    let alloc = rt.alloc();
+    let mut out = BufWriter::new(alloc, rt.stdout())?;
+    let mut state = lines::start();
+    for c in BufReader::new(alloc, rt.stdin())?.bytes() {
+        state = step(&mut out, state, c?)?;
     }
-    end(now.state);
+    end(&mut out, state)?;
+    out.flush()
 }
