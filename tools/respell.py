@@ -4,7 +4,7 @@
     python3 tools/respell.py
 
 It reads tools/respell.txt, a line for each name: the old one and the new one. In .antt, .rt and .edit files each whole name is
-turned; in Markdown only what stands between backticks; in tests/*/run only names of theorems. Where two old names would have
+turned; in Markdown only what stands between backticks. Where two old names would have
 fallen together, or a lemma would have had its function's name, the list gives the lemma `_lem` or the field a name of its own.
 """
 import os

@@ -1,5 +1,5 @@
 // Upper-case hexadecimal, two digits a byte.
-ghost use Rattle.std.specs.Prelude.{◌≤◌, length};
+ghost use Rattle.std.specs.Prelude.{◌≡◌, ◌≤◌, length, take};
 
 // One byte more than the longest string of a case has.
 pub const ROOM: usize = 44;
@@ -28,7 +28,8 @@ fn digit(text: &[u8], at: usize) -> u8 {
 
 // The bytes after a mark and a space, up to a character that is no digit. Answers how many.
 pub fn bytes_after(text: &[u8], out: &mut [u8]) -> usize
-    ensures { result ≤ length out.new }
+    ensures within { result ≤ length out.new }
+    ensures prefix { result ≡ length (take result out.new) }
 {
     for n in 0..out.len() {
         let high = digit(text, 2 * n + 2);

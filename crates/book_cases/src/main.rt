@@ -4,7 +4,7 @@
 mod hex;
 mod show;
 
-ghost use Rattle.std.specs.Prelude.{◌≤◌, length};
+ghost use Rattle.std.specs.Prelude.{◌≡◌, ◌≤◌, length, take};
 
 use book::Book;
 use book::replies::reply_bytes;
@@ -20,7 +20,8 @@ const USUAL: [u8; 34] = *b"; EEEEEEEEEEEEEEEEEEEEEEEEEEEEEEEE";
 
 // How many bytes stand before the first such mark, or in all.
 fn upto(text: &[u8], mark: u8) -> usize
-    ensures { result ≤ length text.now }
+    ensures within { result ≤ length text.now }
+    ensures prefix { result ≡ length (take result text.now) }
 {
     for (i, c) in text.iter().enumerate() {
         if *c == mark {

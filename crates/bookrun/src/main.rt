@@ -79,6 +79,7 @@ fn run<R: Read, W: Write>(
     output
         .write_all(&out[..made])
         .context("bookrun: standard output")?;
+    // Standard output holds nothing back, and another writer may.
     output.flush().context("bookrun: standard output")
 }
 

@@ -28,7 +28,7 @@ use Rattle.figures.proofs.policies.is_purse.Reads as is-purse
 use Rattle.figures.proofs.policies.is_deletion.Reads as is-deletion
 use Rattle.figures.proofs.policies.policy.Reads as policy
 use Rattle.figures.proofs.policies.count_limit.Reads as count-limit
-use Rattle.figures.proofs.policies.purse_limit.Reads as purse_in_limit
+use Rattle.figures.proofs.policies.purse_limit.Reads as purse_limit
 use Rattle.figures.proofs.replies.Refusal.code.Reads as Refusal-code
 use Rattle.figures.proofs.rights.Right.free.Reads as Right-free
 use Rattle.figures.proofs.rights.Right.meets.Reads as Right-meets
@@ -116,7 +116,7 @@ policy_once κs a r r' s s' p q = verdict_once r r' (p ∙ sym q)
 pub count_limit_once : (κs : Lfts 0) (a : _) (r r' : _) (s s' : _) → count-limit.Post κs a r s → count-limit.Post κs a r' s' → r ≡ r'
 count_limit_once κs a r r' s s' p q = p ∙ sym q
 
-pub purse_limit_once : (κs : Lfts 0) (a : _) (r r' : _) (s s' : _) → purse_in_limit.Post κs a r s → purse_in_limit.Post κs a r' s' → r ≡ r'
+pub purse_limit_once : (κs : Lfts 0) (a : _) (r r' : _) (s s' : _) → purse_limit.Post κs a r s → purse_limit.Post κs a r' s' → r ≡ r'
 purse_limit_once κs a r r' s s' p q = p ∙ sym q
 
 pub Refusal-code_once : (κs : Lfts 0) (a : _) (r r' : _) (s s' : _) → Refusal-code.Post κs a r s → Refusal-code.Post κs a r' s' → r ≡ r'
