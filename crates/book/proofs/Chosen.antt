@@ -1,40 +1,54 @@
--- What the walk over the rights tells of the rules' two searches. Assumes nothing.
-use Prim.Native.Nat.{ℕ, ◌<◌}
-use mathlib.Core.Path.{◌≡◌, refl, ap}
-use mathlib.Core.Bool.{true, false}
+-- What the walk over the rights, in its two parts, tells of the rules' two searches. Assumes nothing.
+use Prim.Native.Nat.{ℕ, zero, suc, ◌+◌}
 use native.Mathlib.Omega.{arith}
-use lib.ListN.{length, get_or}
-use Rattle.places.specs.Words.{first, missing}
+use mathlib.Core.Path.{◌≡◌, refl, ap, ◌∙◌}
+use mathlib.Core.Bool.{Bool, true, false, ◌&&◌}
+use mathlib.Core.List.{List, [], ◌∷◌}
+use lib.ListN.{get_or, drop}
+use Rattle.std.specs.Prelude.{option_map, if◌then◌else◌}
+use Rattle.places.specs.Words.{first, next}
+use Rattle.places.proofs.Walks.{past_zero}
+use Rattle.figures.specs.Accounts.{can_pay}
 use Rattle.figures.specs.Rights.{fits}
 use Rattle.rules.specs.Pages.{Pages, key_at, purse_of}
-use Rattle.rules.specs.Messages.{fitting, paying}
+use Rattle.rules.specs.Messages.{fitting, paying, payer}
 use Rattle.rules.proofs.InPlace.{replay_in}
-use Rattle.book.specs.Types.{Found, At, Nowhere, Choice, NoneFits, Fitting, Key, Timestamp, Message}
-use Rattle.book.specs.Choices.{pays, choice_of, choice}
+use Rattle.book.specs.Types.{Option, Some, None, Key, Right, Timestamp, Message}
+use Rattle.book.specs.Choices.{pays, payer_from}
 
-none_of : (f p : Found) → choice_of f p ≡ NoneFits → missing f ≡ true
-none_of (At i) p e = let z : ◌≡◌ {A = ℕ} 0 1 = cc in absurd (omega arith)
-none_of Nowhere p e = refl
+-- ## A search that goes on from where a weaker one stopped
 
-some_of : (f p w : Found) → choice_of f p ≡ Fitting w → (missing f ≡ false) × (p ≡ w)
-some_of (At i) p w e = (refl, cc)
-some_of Nowhere p w e = let z : ◌≡◌ {A = ℕ} 0 1 = cc in absurd (omega arith)
+module _ {A : Type 0} (p q : A → Bool) where
+  moved : (i : ℕ) (w : Option ℕ) → option_map (λ j. suc i + j) w ≡ next (option_map (λ j. i + j) w)
+  moved i (Some j) = ap Some (omega arith)
+  moved i None = refl
 
--- what the rules' searches come to
-abbrev pub asked : Pages → Message → Choice
-asked b m = choice_of (first (λ r. fitting b m r) b.rights) (first (λ r. paying b m r) b.rights)
+  tail_of : (w : Option ℕ) (i : ℕ) → next w ≡ Some (suc i) → w ≡ Some i
+  tail_of (Some j) i e = let s : suc j ≡ suc i = cc in ap Some (omega arith)
+  tail_of None i e = cc
 
-pub none-fits : (b : Pages) (m : Message) → asked b m ≡ NoneFits → missing (first (λ r. fitting b m r) b.rights) ≡ true
-none-fits b m e = none_of (first (λ r. fitting b m r) b.rights) (first (λ r. paying b m r) b.rights) e
+  -- where q passes only what p passes, the first that q passes is not before the first that p passes
+  pub first_on : (l : List A) (i : ℕ) → first p l ≡ Some i → option_map (λ j. i + j) (first (λ x. p x && q x) (drop i l)) ≡ first (λ x. p x && q x) l
+  unfolding first
+  first_on [] i e = cc
+  first_on (x ∷ xs) zero e = past_zero _
+  first_on (x ∷ xs) (suc i) e = go (p x) (λ f. first_on xs i f) e
+    where
+      go : (t : Bool) → (first p xs ≡ Some i → option_map (λ j. i + j) (first (λ x. p x && q x) (drop i xs)) ≡ first (λ x. p x && q x) xs)
+          → (if t then Some 0 else next (first p xs)) ≡ Some (suc i)
+          → option_map (λ j. suc i + j) (first (λ x. p x && q x) (drop i xs)) ≡ (if t && q x then Some 0 else next (first (λ x. p x && q x) xs))
+      go true h e = cc
+      go false h e = moved i _ ∙ ap next (h (tail_of _ i e))
 
-pub some_fits : (b : Pages) (m : Message) (w : Found) → asked b m ≡ Fitting w
-    → (missing (first (λ r. fitting b m r) b.rights) ≡ false) × (first (λ r. paying b m r) b.rights ≡ w)
-some_fits b m w e = some_of (first (λ r. fitting b m r) b.rights) (first (λ r. paying b m r) b.rights) w e
+-- ## The two parts of the walk, by the replay counter of the key in place k, where the ID was found
 
--- the walk by the replay counter of the key in place k, where the ID was found
-pub chosen : (b : Pages) (m : Message) (k : ℕ) (e : Key) → key_at b m.id ≡ At k → k < length b.keys
-    → choice m (get_or b.keys k e).replay b.purse b.rights ≡ asked b m
-unfolding choice fitting paying purse_of
-chosen b m k e found inside =
-    ap (λ (t : Timestamp). choice_of (first (λ r. fits m t r) b.rights) (first (λ r. pays m t b.purse r) b.rights))
-    (replay_in b m.id k e found inside)
+module _ (b : Pages) (m : Message) (k : ℕ) (e : Key) (found : key_at b m.id ≡ Some k) where
+  pub fitting_found : first (λ r. fits m (get_or b.keys k e).replay r) b.rights ≡ first (λ r. fitting b m r) b.rights
+  unfolding fitting
+  fitting_found = ap (λ (t : Timestamp). first (λ r. fits m t r) b.rights) (replay_in b m.id k e found)
+
+  pub payer_found : (i : ℕ) → first (λ r. fitting b m r) b.rights ≡ Some i → payer_from i m (get_or b.keys k e).replay b.purse b.rights ≡ payer b m
+  unfolding payer_from payer paying fitting purse_of
+  payer_found i f =
+      ap (λ (t : Timestamp). option_map (λ j. i + j) (first (λ r. pays m t b.purse r) (drop i b.rights))) (replay_in b m.id k e found)
+      ∙ first_on (λ r. fitting b m r) (λ (r : Right). can_pay b.purse r.account) b.rights i f

@@ -7,7 +7,7 @@ use Rattle.rules.specs.Pages.{key_at, key_in, key_room, right_room, purse_of, as
 use Rattle.rules.specs.Calls.{After}
 use Rattle.rules.specs.Loads.{account_before, key_after, loaded}
 use Rattle.rules.proofs.InPlace.{shown_in}
-use Rattle.book.specs.Types.{Book, Places, At, Load, Settled, Loaded}
+use Rattle.book.specs.Types.{Book, Places, Some, Load, Settled, Loaded}
 use Rattle.book.specs.Pages.{pages, after, Held}
 use Rattle.book.specs.Stored.{stored}
 
@@ -26,7 +26,7 @@ done_by b u l bytes =
     record { book = left; reply = Loaded (as_held left (key_room (pages b) l.name.id) (right_room (pages b) l.name)); buffer = u }
 
 pub stored_is : (b : Book) (l : Load) (bytes : List ℕ) (p : Places) → Held b p
-    → key_room (pages b) l.name.id ≡ At p.key → right_room (pages b) l.name ≡ At p.right → (u : List ℕ)
+    → key_room (pages b) l.name.id ≡ Some p.key → right_room (pages b) l.name ≡ Some p.right → (u : List ℕ)
     → after (stored b l bytes (key_at (pages b) l.name.id) p (settled_by b l)) u ≡ done_by b u l bytes
 unfolding loaded key_after key_in
 stored_is b l bytes p h k r u = rw (k, r, ← shown_in (pages b) p.key p.right h.key h.right)

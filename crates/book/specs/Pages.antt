@@ -4,7 +4,7 @@ use Rattle.places.specs.Words.{put}
 use Rattle.figures.specs.Limits.{key_bytes}
 use Rattle.rules.specs.Pages.{Pages}
 use Rattle.rules.specs.Calls.{After}
-use Rattle.book.specs.Types.{Book, Called, Places, At, Tokens, Key, Right, Shown}
+use Rattle.book.specs.Types.{Book, Called, Places, Some, Tokens, Key, Right, Shown}
 
 abbrev pub pages : Book → Pages
 pages b = record { keys = b.keys; rights = b.rights; purse = b.purse }
@@ -15,7 +15,7 @@ after c u = record { book = pages c.book; reply = c.reply; buffer = u }
 -- the book with a key and a right in these places, and a purse
 abbrev pub changed : Book → Places → Key → Right → Tokens → Book
 changed b p key right purse =
-    record { keys = put (At p.key) key b.keys; rights = put (At p.right) right b.rights; purse = purse }
+    record { keys = put (Some p.key) key b.keys; rights = put (Some p.right) right b.rights; purse = purse }
 
 -- what a reply shows of a right in its place, of its key and of a purse
 abbrev pub shown : ℕ → Right → Key → Tokens → Shown

@@ -4,10 +4,7 @@ pub use Rattle.book.specs.declared.Called.{Called}
 pub use Rattle.book.specs.declared.kept.KeptRight.{KeptRight}
 pub use Rattle.book.specs.declared.kept.KeptBook.{KeptBook}
 pub use Rattle.book.specs.declared.lookups.Places.{Places}
-pub use Rattle.book.specs.declared.messages.Choice.{Choice}
-pub use Rattle.book.specs.declared.messages.Choice.TheVariants.{NoneFits, Fitting}
-pub use Rattle.places.specs.declared.Found.{Found}
-pub use Rattle.places.specs.declared.Found.TheVariants.{At, Nowhere}
+pub use Rattle.std.specs.Prelude.{Option, Some, None}
 pub use Rattle.places.specs.declared.Verdict.TheVariants.{Passed, Failed}
 pub use Rattle.figures.specs.declared.names.Tokens.{Tokens}
 pub use Rattle.figures.specs.declared.names.Timestamp.{Timestamp}
@@ -16,13 +13,10 @@ pub use Rattle.figures.specs.declared.names.RightName.{RightName}
 pub use Rattle.figures.specs.declared.accounts.Account.{Account}
 pub use Rattle.figures.specs.declared.accounts.Account.TheVariants.{Counted, Purse}
 pub use Rattle.figures.specs.declared.rights.Right.{Right}
-pub use Rattle.figures.specs.declared.rights.WantedRight.TheVariants.{Named, OfId, FreeRight}
 pub use Rattle.figures.specs.declared.keys.Key.{Key}
-pub use Rattle.figures.specs.declared.keys.WantedKey.TheVariants.{WithId, FreeKey}
 pub use Rattle.figures.specs.declared.loads.Load.{Load}
 pub use Rattle.figures.specs.declared.loads.Message.{Message}
 pub use Rattle.figures.specs.declared.loads.Settled.{Settled}
-pub use Rattle.figures.specs.declared.loads.Settlement.TheVariants.{Within, Past}
 pub use Rattle.figures.specs.declared.replies.Shown.{Shown}
 pub use Rattle.figures.specs.declared.replies.Reply.{Reply}
 pub use Rattle.figures.specs.declared.replies.Reply.TheVariants.{Loaded, Deleted, Granted, Reported, OverHeld, OverNew, Refused}

@@ -8,11 +8,11 @@ mod lookups;
 mod messages;
 pub mod replies;
 
-ghost use Rattle.std.specs.Prelude.{◌≡◌, not, eqb};
+ghost use Rattle.std.specs.Prelude.{◌≡◌, not, eqb, length};
 ghost use Rattle.places.specs.Words.{failed};
 ghost use Rattle.figures.specs.Limits.{key_bytes};
 ghost use Rattle.rules.specs.Pages.{empty_book};
-ghost use Rattle.rules.specs.Rules.{call};
+ghost use Rattle.rules.specs.Rules.{act, call};
 ghost use Rattle.book.specs.Types.{Refused};
 ghost use Rattle.book.specs.Pages.{pages, after};
 
@@ -21,8 +21,8 @@ use figures::limits::{KEY_BYTES, KEY_PLACES, RIGHT_PLACES};
 use figures::names::Tokens;
 use figures::replies::{Refusal, Reply};
 use figures::rights::{FREE_RIGHT, Right};
+use frames::Frame;
 use frames::reader::read;
-use frames::{Frame, Seen};
 use places::Verdict;
 
 #[derive(Clone, Copy)]
@@ -43,11 +43,7 @@ pub struct Called {
 fn room(lent: usize) -> Verdict
     ensures { failed result ≡ not (eqb lent key_bytes) }
 {
-    if lent == KEY_BYTES {
-        Verdict::Passed
-    } else {
-        Verdict::Failed
-    }
+    Verdict::unless(lent != KEY_BYTES)
 }
 
 impl Book {
@@ -55,11 +51,9 @@ impl Book {
     pub fn empty() -> Book
         ensures { pages result ≡ empty_book }
     {
-        let key = FREE_KEY;
-        let right = FREE_RIGHT;
         Book {
-            keys: [key; KEY_PLACES],
-            rights: [right; RIGHT_PLACES],
+            keys: [FREE_KEY; KEY_PLACES],
+            rights: [FREE_RIGHT; RIGHT_PLACES],
             purse: Tokens(0),
         }
     }
@@ -80,6 +74,19 @@ impl Book {
         self.unchanged(Reply::Refused(why))
     }
 
+    // What a frame of each kind does.
+    fn act(self, frame: Frame, bytes: [u8; KEY_BYTES], key: &mut [u8]) -> Called
+        requires { length key.old ≡ key_bytes }
+        ensures { after result key.new ≡ act (pages self) key.old frame bytes }
+    {
+        match frame {
+            Frame::Load(load) => self.load(load, bytes),
+            Frame::Message(message) => self.message(message, key),
+            Frame::Report(name) => self.report(name),
+            Frame::Delete(name) => self.delete(name),
+        }
+    }
+
     // A byte string and the lent key buffer.
     pub fn call(self, frame: &[u8], key: &mut [u8]) -> Called
         ensures { after result key.new ≡ call (pages self) frame.now key.old }
@@ -88,26 +95,9 @@ impl Book {
             return self.refused(Refusal::BufferLength);
         };
         let read = read(frame);
-        let seen = read.frame;
-        let bytes = read.key;
-        match seen {
-            Seen::Unread(why) => {
-                return self.refused(why);
-            }
-            Seen::Whole(whole) => match whole {
-                Frame::Load(load) => {
-                    return self.load(load, bytes);
-                }
-                Frame::Message(message) => {
-                    return self.message(message, key);
-                }
-                Frame::Report(name) => {
-                    return self.report(name);
-                }
-                Frame::Delete(name) => {
-                    return self.delete(name);
-                }
-            },
+        match read.frame {
+            Ok(frame) => self.act(frame, read.key, key),
+            Err(why) => self.refused(why),
         }
     }
 }

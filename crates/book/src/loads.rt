@@ -6,46 +6,35 @@ ghost use Rattle.rules.specs.Rules.{load};
 ghost use Rattle.book.specs.Pages.{pages, after, Held};
 ghost use Rattle.book.specs.Stored.{stored, over};
 
-use crate::lookups::{Places, key_at, key_in, key_room, right_at, right_in, right_room, shown_of};
+use crate::lookups::{Places, held_in, place_of, room_for, shown_of};
 use crate::{Book, Called};
-use figures::keys::WantedKey;
+use figures::keys::FREE_KEY;
 use figures::limits::KEY_BYTES;
-use figures::loads::{Load, Settled, Settlement};
+use figures::loads::{Load, Settled};
 use figures::policies::{is_deletion, policy};
 use figures::replies::{Refusal, Reply};
-use figures::rights::WantedRight;
-use places::{Found, Verdict};
+use figures::rights::FREE_RIGHT;
+use places::Verdict;
 
 // Fails where the ID is not held and no key is carried.
-fn known(held: Found, carried: bool) -> Verdict
+fn known(held: Option<usize>, carried: bool) -> Verdict
     ensures { failed result ≡ (missing held && not carried) }
 {
-    match held {
-        Found::At(_) => Verdict::Passed,
-        Found::Nowhere => {
-            if carried {
-                return Verdict::Passed;
-            }
-            Verdict::Failed
-        }
-    }
+    Verdict::unless(held.is_none() && !carried)
 }
 
 impl Book {
     // 17: as held where the right is held.
     #[tactic(auto, unfolding(rules::specs::Pages::user_purse))]
-    fn over(self, key: Found, right: Found) -> Called
+    fn over(self, key: Option<usize>, right: Option<usize>) -> Called
         ensures { result ≡ record { book = self; reply = over (pages self) key right } }
     {
         match right {
-            Found::At(place) => {
+            Some(place) => {
                 let shown = self.as_held(key, place);
-                return self.unchanged(Reply::OverHeld(shown));
+                self.unchanged(Reply::OverHeld(shown))
             }
-            Found::Nowhere => {
-                let purse = self.purse;
-                return self.unchanged(Reply::OverNew(purse));
-            }
+            None => self.unchanged(Reply::OverNew(self.purse)),
         }
     }
 
@@ -55,33 +44,29 @@ impl Book {
         self,
         load: Load,
         bytes: [u8; KEY_BYTES],
-        held: Found,
+        held: Option<usize>,
         places: Places,
         settled: Settled,
     ) -> Called
         requires { Held self places }
         ensures { result ≡ stored self load bytes held places settled }
     {
-        let key_place = places.key;
-        let right_place = places.right;
-        let mut book = self;
-        let keys = book.keys;
-        let id = load.name.id;
-        let key = key_in(keys, held).loaded(id, load.flags.key, bytes);
-        let account = settled.account;
+        let before = held_in(&self.keys, held, FREE_KEY);
+        let key = before.loaded(load.name.id, load.flags.key, bytes);
+        let right = load.right(settled.account);
         let purse = settled.purse;
-        let right = load.right(account);
-        let shown = shown_of(right_place, right, key, purse);
-        book.keys[key_place] = key;
-        book.rights[right_place] = right;
+        let mut book = self;
+        book.keys[places.key] = key;
+        book.rights[places.right] = right;
         book.purse = purse;
+        let shown = shown_of(places.right, right, key, purse);
         Called {
-            book: book,
+            book,
             reply: Reply::Loaded(shown),
         }
     }
 
-    // A load other than 0A.
+    // A load other than 0A. 01, The shape of each place: let .. else, and no `?`, returns each refusal with the book unchanged.
     fn store(self, load: Load, bytes: [u8; KEY_BYTES]) -> Called
         ensures { (u : List ℕ) → after result u ≡ store (pages self) u load bytes }
     {
@@ -92,26 +77,22 @@ impl Book {
         let Verdict::Passed = load.free_of_cost() else {
             return self.refused(Refusal::Fields);
         };
-        let interval = name.interval;
-        let Verdict::Passed = interval.proper() else {
+        let Verdict::Passed = name.interval.proper() else {
             return self.refused(Refusal::EmptyInterval);
         };
-        let keys = self.keys;
-        let id = name.id;
-        let key = key_at(keys, WantedKey::WithId(id));
+        let key = place_of(&self.keys, name.id);
         let Verdict::Passed = known(key, load.flags.key) else {
             return self.refused(Refusal::UnknownId);
         };
-        let Found::At(key_place) = key_room(keys, key) else {
+        let Some(key_place) = room_for(&self.keys, key) else {
             return self.refused(Refusal::Full);
         };
-        let rights = self.rights;
-        let right = right_at(rights, WantedRight::Named(name));
-        let Found::At(right_place) = right_room(rights, right) else {
+        let right = place_of(&self.rights, name);
+        let Some(right_place) = room_for(&self.rights, right) else {
             return self.refused(Refusal::Full);
         };
-        let account = right_in(rights, right).account;
-        let Settlement::Within(settled) = load.settled(account, self.purse) else {
+        let before = held_in(&self.rights, right, FREE_RIGHT);
+        let Some(settled) = load.settled(before.account, self.purse) else {
             return self.over(key, right);
         };
         let places = Places {
@@ -126,8 +107,9 @@ impl Book {
         ensures { (u : List ℕ) → after result u ≡ load (pages self) u frame bytes }
     {
         if is_deletion(frame.name.spe) {
-            return self.erase(frame);
+            self.erase(frame)
+        } else {
+            self.store(frame, bytes)
         }
-        self.store(frame, bytes)
     }
 }

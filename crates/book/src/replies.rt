@@ -8,7 +8,6 @@ use figures::accounts::Account;
 use figures::limits::{NO_PLACE, REPLY_BYTES};
 use figures::names::Tokens;
 use figures::replies::{Reply, Shown};
-use frames::numbers::bytes4;
 
 // The right's counter, or its cost.
 fn value_of(account: Account) -> u32
@@ -24,39 +23,21 @@ fn value_of(account: Account) -> u32
 fn joined(code: u8, place: usize, value: u32, purse: u32, replay: u32) -> [u8; REPLY_BYTES]
     ensures { result ≡ join reply_widths (code ∷ place ∷ value ∷ purse ∷ replay ∷ []) }
 {
-    let worth = bytes4(value);
-    let tokens = bytes4(purse);
-    let counter = bytes4(replay);
-    [
-        code,
-        (place % 256) as u8,
-        worth[0],
-        worth[1],
-        worth[2],
-        worth[3],
-        tokens[0],
-        tokens[1],
-        tokens[2],
-        tokens[3],
-        counter[0],
-        counter[1],
-        counter[2],
-        counter[3],
-    ]
+    let mut bytes = [0; REPLY_BYTES];
+    bytes[0] = code;
+    bytes[1] = (place % 256) as u8;
+    bytes[2..6].copy_from_slice(&value.to_be_bytes());
+    bytes[6..10].copy_from_slice(&purse.to_be_bytes());
+    bytes[10..].copy_from_slice(&replay.to_be_bytes());
+    bytes
 }
 
 // A code, with the right as held.
 fn held(code: u8, shown: Shown) -> [u8; REPLY_BYTES]
     ensures { result ≡ join reply_widths (held code shown) }
 {
-    let account = shown.account;
-    joined(
-        code,
-        shown.place,
-        value_of(account),
-        shown.purse.0,
-        shown.replay.0,
-    )
+    let value = value_of(shown.account);
+    joined(code, shown.place, value, shown.purse.0, shown.replay.0)
 }
 
 // A code, with no right to show.
@@ -66,6 +47,7 @@ fn none(code: u8, purse: u32) -> [u8; REPLY_BYTES]
     joined(code, NO_PLACE, 0, purse, 0)
 }
 
+// 01, Replies: the codes as they are on the wire; the enum is `Reply`.
 #[tactic(auto, unfolding(rules::specs::Replies::reply_bytes, rules::specs::Replies::reply_fields))]
 pub fn reply_bytes(reply: Reply) -> [u8; REPLY_BYTES]
     ensures { result ≡ reply_bytes reply }
@@ -77,6 +59,6 @@ pub fn reply_bytes(reply: Reply) -> [u8; REPLY_BYTES]
         Reply::Reported(shown) => held(0x02, shown),
         Reply::OverHeld(shown) => held(0x17, shown),
         Reply::OverNew(purse) => none(0x17, purse.0),
-        Reply::Refused(why) => none(why.code(), 0),
+        Reply::Refused(why) => none(u8::from(why), 0),
     }
 }

@@ -1,51 +1,48 @@
 // Upper-case hexadecimal, two digits a byte.
-ghost use Rattle.std.specs.Prelude.{◌≡◌, ◌≤◌, length, take};
+ghost use Rattle.std.specs.Prelude.{◌<◌, IfSome};
+
+use std::fmt;
 
 // One byte more than the longest string of a case has.
-pub const ROOM: usize = 44;
+pub(crate) const ROOM: usize = 44;
 
-// What stands for a character that is no digit.
-const NO_DIGIT: u8 = 16;
+// A byte string in digits. frames_cases has its own: it prints lower case, and no crate lies under both for it.
+#[derive(Clone, Copy)]
+pub(crate) struct Hex<'a>(pub(crate) &'a [u8]);
 
-const DIGITS: [u8; 16] = *b"0123456789ABCDEF";
-
-// The value of a digit.
-fn value(c: u8) -> u8 {
-    match c {
-        b'0'..=b'9' => c - b'0',
-        b'A'..=b'F' => c - b'A' + 10,
-        _ => NO_DIGIT,
+impl fmt::Display for Hex<'_> {
+    fn fmt<W: fmt::Write>(&self, f: &mut fmt::Formatter<W>) -> fmt::Result {
+        for byte in self.0 {
+            write!(f, "{byte:02X}")?;
+        }
+        Ok(())
     }
 }
 
-// The digit in a place, if one is there.
-fn digit(text: &[u8], at: usize) -> u8 {
-    if at < text.len() {
-        return value(text[at]);
-    }
-    NO_DIGIT
-}
-
-// The bytes after a mark and a space, up to a character that is no digit. Answers how many.
-pub fn bytes_after(text: &[u8], out: &mut [u8]) -> usize
-    ensures within { result ≤ length out.new }
-    ensures prefix { result ≡ length (take result out.new) }
+// The value of a digit. That of `lines` lies above the book, which this program tries alone.
+fn digit(c: u8) -> Option<u8>
+    ensures { IfSome result (λ d. d < 16) }
 {
-    for n in 0..out.len() {
-        let high = digit(text, 2 * n + 2);
-        let low = digit(text, 2 * n + 3);
-        if high >= NO_DIGIT {
-            return n;
-        }
-        if low >= NO_DIGIT {
-            return n;
-        }
-        out[n] = high * 16 + low;
+    match c {
+        b'0'..=b'9' => Some(c - b'0'),
+        b'A'..=b'F' => Some(c - b'A' + 10),
+        _ => None,
     }
-    out.len()
 }
 
-// A byte's two digits.
-pub fn digits(byte: u8) -> [u8; 2] {
-    [DIGITS[(byte / 16) as usize], DIGITS[(byte % 16) as usize]]
+// The byte that two digits spell.
+fn byte([high, low]: [u8; 2]) -> Option<u8> {
+    Some(digit(high)? * 16 + digit(low)?)
+}
+
+// The bytes after a mark and a space, up to a character that is no digit: no more than there is room for.
+pub(crate) fn bytes_after<'a>(text: &[u8], room: &'a mut [u8; ROOM]) -> &'a mut [u8] {
+    let (pairs, _) = text.get(2..).unwrap_or(&[]).as_chunks::<2>();
+    for (n, pair) in pairs.iter().take(ROOM).enumerate() {
+        let Some(byte) = byte(*pair) else {
+            return &mut room[..n];
+        };
+        room[n] = byte;
+    }
+    &mut room[..pairs.len().min(ROOM)]
 }

@@ -2,13 +2,10 @@
 #![tactic(auto)]
 
 mod hex;
-mod show;
-
-ghost use Rattle.std.specs.Prelude.{◌≡◌, ◌≤◌, length, take};
 
 use book::Book;
 use book::replies::reply_bytes;
-use hex::{ROOM, bytes_after};
+use hex::{Hex, ROOM, bytes_after};
 use std::io;
 use std::io::{BufWriter, Read, Write};
 
@@ -18,78 +15,47 @@ const LONGEST: u64 = 131072;
 // The buffer that a line lends if it names none.
 const USUAL: [u8; 34] = *b"; EEEEEEEEEEEEEEEEEEEEEEEEEEEEEEEE";
 
-// How many bytes stand before the first such mark, or in all.
-fn upto(text: &[u8], mark: u8) -> usize
-    ensures within { result ≤ length text.now }
-    ensures prefix { result ≡ length (take result text.now) }
-{
-    for (i, c) in text.iter().enumerate() {
-        if *c == mark {
-            return i;
-        }
-    }
-    text.len()
-}
-
 // One call, printed after its label.
 fn call<W: Write>(out: &mut W, book: Book, frame: &[u8], key: &mut [u8]) -> io::Result<Book> {
-    show::text(out, b": ")?;
-    show::string(out, frame)?;
     let called = book.call(frame, key);
-    let reply = called.reply;
-    let bytes = reply_bytes(reply);
-    show::text(out, b" answers ")?;
-    show::string(out, &bytes)?;
-    show::text(out, b", buffer ")?;
-    show::string(out, key)?;
+    let reply = reply_bytes(called.reply);
+    write!(
+        out,
+        ": {} answers {}, buffer {}",
+        Hex(frame),
+        Hex(&reply),
+        Hex(key)
+    )?;
     Ok(called.book)
-}
-
-// One case: its label, its frame and the buffer it lends.
-fn case<W: Write>(
-    out: &mut W,
-    book: Book,
-    label: &[u8],
-    frame: &[u8],
-    buffer: &[u8],
-) -> io::Result<Book> {
-    let mut bytes = [0; ROOM];
-    let mut key = [0; ROOM];
-    let n = bytes_after(frame, &mut bytes);
-    let m = bytes_after(buffer, &mut key);
-    show::text(out, label)?;
-    call(out, book, &bytes[..n], &mut key[..m])
 }
 
 // A line without a colon is a heading, after which the book is empty. Any other is a case: `label: FRAME`, or `label: FRAME; BUFFER`.
 fn line<W: Write>(out: &mut W, book: Book, line: &[u8]) -> io::Result<Book> {
-    let colon = upto(line, b':');
-    let semicolon = upto(line, b';');
-    if colon == line.len() {
-        show::text(out, line)?;
+    let Some(colon) = line.iter().position(|c| *c == b':') else {
+        out.write_all(line)?;
         return Ok(Book::empty());
-    }
-    if semicolon == line.len() {
-        return case(out, book, &line[..colon], &line[colon..], &USUAL);
-    }
-    case(
+    };
+    let buffer = match line.iter().position(|c| *c == b';') {
+        Some(semicolon) => &line[semicolon..],
+        None => &USUAL,
+    };
+    let mut bytes = [0; ROOM];
+    let mut key = [0; ROOM];
+    out.write_all(&line[..colon])?;
+    call(
         out,
         book,
-        &line[..colon],
-        &line[colon..],
-        &line[semicolon..],
+        bytes_after(&line[colon..], &mut bytes),
+        bytes_after(buffer, &mut key),
     )
 }
 
-// Each line in turn.
+// Each line in turn: `split_inclusive` gives none for no text, and none after a last line feed.
 fn run<W: Write>(out: &mut W, text: &[u8]) -> io::Result<()> {
     let mut book = Book::empty();
-    let mut at = 0;
-    while at < text.len() {
-        let end = at + upto(&text[at..], b'\n');
-        book = line(out, book, &text[at..end])?;
-        show::text(out, b"\n")?;
-        at = end + 1;
+    for part in text.split_inclusive(|c| *c == b'\n') {
+        book = line(out, book, part.strip_suffix(b"\n").unwrap_or(part))?;
+        out.write_all(b"\n")?;
     }
     Ok(())
 }

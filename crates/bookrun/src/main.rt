@@ -1,12 +1,14 @@
 // The key book over lines: frames from standard input, replies to standard output, from an empty book.
 #![tactic(auto)]
 
-ghost use Rattle.std.specs.Prelude.{◌≤◌, length};
+ghost use Rattle.std.specs.Prelude.{◌≡◌, [], OnOk};
 ghost use Rattle.std.specs.Io.{ReadsAtMost};
-ghost use Rattle.lines.specs.Hex.{reply_line};
+ghost use Rattle.std.specs.Io.KnownBytes.{ReadConsumes};
+ghost use Rattle.lines.specs.Feeding.{seen, started};
+ghost use Rattle.bookrun.specs.Prints.{Answers, Ends, Runs};
 
 use anyhow::{Context, Result};
-use lines::State;
+use lines::{Fed, State};
 use std::io;
 use std::io::{ErrorKind, Read, Write};
 
@@ -15,7 +17,8 @@ const ROOM: usize = 65536;
 
 // One read: how many bytes came, 0 at the end. An interrupted read is made again.
 fn read<R: Read>(input: &mut R, buf: &mut [u8]) -> io::Result<usize>
-    ensures { ReadsAtMost result buf.new }
+    ensures bound { ReadsAtMost result buf.new }
+    ensures bytes { ReadConsumes (R.Read.remaining input.old) (R.Read.remaining input.new) result buf.new }
 {
     for _ in 0..u64::MAX {
         match input.read(buf) {
@@ -26,65 +29,73 @@ fn read<R: Read>(input: &mut R, buf: &mut [u8]) -> io::Result<usize>
     input.read(buf)
 }
 
-// Answers all of a chunk. There is a write whenever the replies fill the buffer, and one at the end.
-fn answer<W: Write>(output: &mut W, state: State, input: &[u8], out: &mut [u8]) -> io::Result<State>
-    requires { reply_line ≤ length out.old }
-{
-    let mut state = state;
-    let mut at = 0;
-    while at < input.len() {
-        let fed = lines::feed(state, &input[at..], out);
-        let used = fed.used;
-        let made = fed.made;
-        state = fed.state;
-        output.write_all(&out[..made])?;
-        at += used;
-    }
-    Ok(state)
+// The lines so far, and the way of their replies to the output.
+#[derive(Drop)]
+struct Replies<W> {
+    state: State,
+    room: [u8; ROOM],
+    output: W,
 }
 
-// Answers all whole lines. A proved loop has to end, and nothing says that the input does: it counts to a number that no run reaches.
-fn pump<R: Read, W: Write>(
-    input: &mut R,
-    output: &mut W,
-    state: State,
-    buf: &mut [u8],
-    out: &mut [u8],
-) -> Result<State>
-    requires { reply_line ≤ length out.old }
-    ensures { reply_line ≤ length out.new }
+impl<W: Write> Replies<W> {
+    fn new(output: W) -> Replies<W>
+        ensures state { seen result.state ≡ started }
+        ensures output { result.output ≡ output }
+    {
+        Replies {
+            state: lines::start(),
+            room: [0; ROOM],
+            output,
+        }
+    }
+
+    // Answers all of a chunk. There is a write whenever the replies fill the buffer, and one at the end.
+    fn answer(&mut self, chunk: &[u8]) -> io::Result<()>
+        ensures { OnOk result (Answers (seen self.old.state) chunk.now (seen self.new.state)
+            (W.Write.contents self.old.output) (W.Write.contents self.new.output)) }
+    {
+        let mut rest = chunk;
+        while !rest.is_empty() {
+            let Fed { state, used, made } = lines::feed(self.state, rest, &mut self.room);
+            self.state = state;
+            self.output.write_all(&self.room[..made])?;
+            (_, rest) = rest.split_at(used);
+        }
+        Ok(())
+    }
+
+    // Answers a last line without line feed.
+    fn finish(&mut self) -> io::Result<()>
+        ensures { OnOk result (Ends (seen self.old.state) []
+            (W.Write.contents self.old.output) (W.Write.contents self.new.output)) }
+    {
+        let Fed { state, made, .. } = lines::finish(self.state, &mut self.room);
+        self.state = state;
+        self.output.write_all(&self.room[..made])?;
+        // Standard output holds nothing back, and another writer may.
+        self.output.flush()
+    }
+}
+
+// Answers all lines. A proved loop has to end, and nothing says that the input does: it counts to a number that no run reaches.
+fn run<R: Read, W: Write>(input: &mut R, replies: &mut Replies<W>) -> Result<()>
+    ensures { OnOk result (Runs (seen replies.old.state)
+        (R.Read.remaining input.old) (R.Read.remaining input.new)
+        (W.Write.contents replies.old.output) (W.Write.contents replies.new.output)) }
 {
-    let mut state = state;
+    let mut chunk = [0; ROOM];
     for _ in 0..u64::MAX {
-        let n = read(input, buf).context("bookrun: standard input")?;
+        let n = read(input, &mut chunk).context("bookrun: standard input")?;
         if n == 0 {
             break;
         }
-        state = answer(output, state, &buf[..n], out).context("bookrun: standard output")?;
+        replies
+            .answer(&chunk[..n])
+            .context("bookrun: standard output")?;
     }
-    Ok(state)
-}
-
-fn run<R: Read, W: Write>(
-    input: &mut R,
-    output: &mut W,
-    buf: &mut [u8],
-    out: &mut [u8],
-) -> Result<()>
-    requires { reply_line ≤ length out.old }
-{
-    let state = pump(input, output, lines::start(), buf, out)?;
-    let fed = lines::finish(state, out);
-    let made = fed.made;
-    output
-        .write_all(&out[..made])
-        .context("bookrun: standard output")?;
-    // Standard output holds nothing back, and another writer may.
-    output.flush().context("bookrun: standard output")
+    replies.finish().context("bookrun: standard output")
 }
 
 fn main(rt: HostRuntime) -> Result<()> {
-    let mut buf = [0u8; ROOM];
-    let mut out = [0u8; ROOM];
-    run(&mut rt.stdin(), &mut rt.stdout(), &mut buf, &mut out)
+    run(&mut rt.stdin(), &mut Replies::new(rt.stdout()))
 }

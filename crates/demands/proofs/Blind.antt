@@ -15,7 +15,7 @@ use Rattle.rules.specs.Loads.{loadable, account_before, over_limit, over_reply, 
 use Rattle.rules.specs.Deletions.{left, report_refusals, report, dropped, delete_refusals, delete, erased, erase_refusals, erase}
 use Rattle.rules.specs.Messages.{replay_of, fitting, paying, payer, message_refusals, granted, grant, message}
 use Rattle.rules.specs.Rules.{load, act, buffer_refusals, taken, call}
-use Rattle.demands.specs.Types.{Found, Timestamp, KeyId, RightName, Right, Key, Load, Message, Reply, Frame, LoadFrame, MessageFrame, ReportFrame, DeleteFrame, Seen, Whole, Unread}
+use Rattle.demands.specs.Types.{Option, Timestamp, KeyId, RightName, Right, Key, Load, Message, Reply, Frame, LoadFrame, MessageFrame, ReportFrame, DeleteFrame, Seen, Ok, Err}
 use Rattle.demands.specs.Demand3.{blind_key, blind}
 
 map-map-blind : (l : List Key) → map blind_key (map blind_key l) ≡ map blind_key l
@@ -31,7 +31,7 @@ module _ (b : Pages) where
   unfolding key_at blind
   key_at-blind i = first-map blind_key (λ k. is_key i k) b.keys
 
-  key_in-blind : (k : Found) → key_in (blind b) k ≡ blind_key (key_in b k)
+  key_in-blind : (k : Option ℕ) → key_in (blind b) k ≡ blind_key (key_in b k)
   unfolding key_in blind free_key
   key_in-blind k = at_map blind_key free_key k b.keys
 
@@ -43,7 +43,7 @@ module _ (b : Pages) where
   unfolding right_room right_at free_right_at blind
   right_room-blind n = refl
 
-  as_held-blind : (k r : Found) → as_held (blind b) k r ≡ as_held b k r
+  as_held-blind : (k r : Option ℕ) → as_held (blind b) k r ≡ as_held b k r
   unfolding as_held right_in purse_of blind
   as_held-blind k r = simp key_in-blind
 
@@ -81,7 +81,7 @@ module _ (b : Pages) where
   unfolding payer blind
   payer-blind m = simp paying-blind
 
-  granted-blind : (k r : Found) (ts : Timestamp) → granted (blind b) k r ts ≡ blind (granted b k r ts)
+  granted-blind : (k r : Option ℕ) (ts : Timestamp) → granted (blind b) k r ts ≡ blind (granted b k r ts)
   unfolding granted granted_key right_in purse_of blind
   granted-blind k r ts = simp (key_in-blind, put_map blind_key k (granted_key ts (key_in b k)))
 
@@ -162,8 +162,8 @@ module _ (b : Pages) (u v : List ℕ) where
 
   taken-shows : (f : Seen) (key : List ℕ) → shows (taken b u f key) ≡ shows (taken (blind b) v f zeros)
   unfolding taken
-  taken-shows (Whole f) key = act-shows f key
-  taken-shows (Unread r) key = done_shows b u v refl
+  taken-shows (Ok f) key = act-shows f key
+  taken-shows (Err r) key = done_shows b u v refl
 
   -- a call shows nothing but what it would show with no key bytes at all, in the book and in the frame
   pub call-shows : (s : List ℕ) → length u ≡ length v

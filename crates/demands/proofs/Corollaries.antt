@@ -25,7 +25,7 @@ use Rattle.rules.specs.Sound.{Sound}
 use Rattle.rules.specs.OneCall.{OnlyAt, Gone, Replays, as_live, as_playback, Pays, from_counter, from_purse, Grant, LoadsKey, new, replaced, kept, Outcome, refused, limit_passed, granted, reported, loaded, erased, deleted}
 use Rattle.rules.proofs.OneCall.{every_call, grants_charge}
 use Rattle.rules.proofs.Kept.{call_sound, key_at_is}
-use Rattle.demands.specs.Types.{Found, At, TrafficKeys, Timestamp, KeyId, Counted, Account, Tokens, Key, Load, Message, Seen, Reply, Loaded, Deleted, Granted, Reported, OverHeld, OverNew, Refused, Frame, MessageFrame, Whole}
+use Rattle.demands.specs.Types.{Option, Some, TrafficKeys, Timestamp, KeyId, Counted, Account, Tokens, Key, Load, Message, Seen, Reply, Loaded, Deleted, Granted, Reported, OverHeld, OverNew, Refused, Frame, MessageFrame, Ok}
 use Rattle.demands.specs.Runs.{Call, called, final, replies}
 use Rattle.demands.specs.Corollaries.{paid_from_purse, Holding, none, more, LiveGrant, RepeatNeverLive, NoTsTwiceLive, took, took_all, is_loaded, PurseLosesWhatGrantsTook, ExhaustedStays}
 
@@ -33,13 +33,13 @@ use Rattle.demands.specs.Corollaries.{paid_from_purse, Holding, none, more, Live
 
 replay_in : {z : Sizes} (b : Pages) → Sound z b → (i : KeyId) (j : ℕ) → is_key i (get_or b.keys j free_key) ≡ true → replay_of b i ≡ (get_or b.keys j free_key).replay
 unfolding replay_of key_in at
-replay_in b s i j h = ap (λ (w : Found). (at free_key w b.keys).replay) (key_at_is b s i j h)
+replay_in b s i j h = ap (λ (w : Option ℕ). (at free_key w b.keys).replay) (key_at_is b s i j h)
 
 held_in : (b : Pages) (i : KeyId) → missing (key_at b i) ≡ false → (j : ℕ) × (is_key i (get_or b.keys j free_key) ≡ true)
 unfolding key_at free_key
 held_in b i h = go (present (first (λ k. is_key i k) b.keys) h)
   where
-    go : (j : ℕ) × (first (λ k. is_key i k) b.keys ≡ At j) → (j : ℕ) × (is_key i (get_or b.keys j free_key) ≡ true)
+    go : (j : ℕ) × (first (λ k. is_key i k) b.keys ≡ Some j) → (j : ℕ) × (is_key i (get_or b.keys j free_key) ≡ true)
     go (j, e) = (j, (first-at (λ k. is_key i k) free_key refl b.keys e).1)
 
 -- a place that keeps its key keeps the counter of the ID
@@ -84,7 +84,7 @@ same_book b a i e = let r : (replay_of a i).0 ≡ (replay_of b i).0 = ap (λ (p 
 
 module _ {z : Sizes} (b : Pages) (s : Sound z b) (a : After) (t : Sound z a.book) (i : KeyId) where
   -- in a place that keeps its ID
-  place_up : (j : ℕ) → is_key i (key_in b (At j)) ≡ true → is_key i (key_in a.book (At j)) ≡ true → (key_in b (At j)).replay.0 ≤ (key_in a.book (At j)).replay.0
+  place_up : (j : ℕ) → is_key i (key_in b (Some j)) ≡ true → is_key i (key_in a.book (Some j)) ≡ true → (key_in b (Some j)).replay.0 ≤ (key_in a.book (Some j)).replay.0
       → (replay_of b i).0 ≤ (replay_of a.book i).0
   unfolding key_in at
   place_up j h k l =
@@ -94,22 +94,22 @@ module _ {z : Sizes} (b : Pages) (s : Sound z b) (a : After) (t : Sound z a.book
 
   -- only place k alters, and the key of the ID keeps standing there if it did
   one_place : (k : ℕ) → OnlyAt free_key k b.keys a.book.keys
-      → (is_key i (key_in b (At k)) ≡ true → (is_key i (key_in a.book (At k)) ≡ true) × ((key_in b (At k)).replay.0 ≤ (key_in a.book (At k)).replay.0))
+      → (is_key i (key_in b (Some k)) ≡ true → (is_key i (key_in a.book (Some k)) ≡ true) × ((key_in b (Some k)).replay.0 ≤ (key_in a.book (Some k)).replay.0))
       → missing (key_at b i) ≡ false → (replay_of b i).0 ≤ (replay_of a.book i).0
   unfolding key_in at
   one_place k only f h = go (held_in b i h)
     where
       here_or_not : (j : ℕ) → is_key i (get_or b.keys j free_key) ≡ true → (eqb j k ≡ true) ⊎ (eqb j k ≡ false) → (replay_of b i).0 ≤ (replay_of a.book i).0
       here_or_not j e (inl q) =
-          let o : is_key i (key_in b (At k)) ≡ true = subst (λ (n : ℕ). is_key i (get_or b.keys n free_key) ≡ true) (eqb-true j k q) e in
+          let o : is_key i (key_in b (Some k)) ≡ true = subst (λ (n : ℕ). is_key i (get_or b.keys n free_key) ≡ true) (eqb-true j k q) e in
           place_up k o (f o).0 (f o).1
       here_or_not j e (inr q) = same_place b a.book s t i j e (only.others j (apart j k q))
 
       go : (j : ℕ) × (is_key i (get_or b.keys j free_key) ≡ true) → (replay_of b i).0 ≤ (replay_of a.book i).0
       go (j, e) = here_or_not j e (by_test (eqb j k))
 
-  grant_keeps : {x : List ℕ} (g : Grant b x a) → is_key i (key_in b (At g.k)) ≡ true → is_key i (key_in a.book (At g.k)) ≡ true
-  grant_keeps g o = rw (g.nothing_else.key-held, g.nothing_else.key-id) (and_right (key_in b (At g.k)).held _ o)
+  grant_keeps : {x : List ℕ} (g : Grant b x a) → is_key i (key_in b (Some g.k)) ≡ true → is_key i (key_in a.book (Some g.k)) ≡ true
+  grant_keeps g o = rw (g.nothing_else.key-held, g.nothing_else.key-id) (and_right (key_in b (Some g.k)).held _ o)
 
   rises : (x u : List ℕ) → Outcome b x u a → missing (key_at b i) ≡ false → missing (key_at a.book i) ≡ false → (replay_of b i).0 ≤ (replay_of a.book i).0
   rises x u (refused r e c w) h k = same_book b a.book i w.book
@@ -147,7 +147,7 @@ run_rises {z} b s i (c ∷ cs) h (more k r) =
     let rest = run_rises (called b c).book t i cs k r in
     omega arith
 
-same_message : {m n : Message} → ◌≡◌ {A = Seen} (Whole (MessageFrame m)) (Whole (MessageFrame n)) → m ≡ n
+same_message : {m n : Message} → ◌≡◌ {A = Seen} (Ok (MessageFrame m)) (Ok (MessageFrame n)) → m ≡ n
 same_message e = cc
 
 replays_live : {spe : ℕ} {ts x y : Timestamp} → Replays spe ts x y → x.0 < ts.0 → y.0 ≡ ts.0
@@ -163,13 +163,13 @@ live-sets {z} b s i ts c l =
     let g = grants_charge z b s c.frame c.buffer l.granted in
     let e : g.message ≡ l.message = same_message (sym g.read ∙ l.read) in
     let n : g.message.id ≡ i = ap (λ (m : Message). m.id) e ∙ l.for_id in
-    let o : is_key i (key_in b (At g.k)) ≡ true = subst (λ (x : KeyId). is_key x (key_in b (At g.k)) ≡ true) n g.its_key in
-    let k : is_key i (key_in (called b c).book (At g.k)) ≡ true = grant_keeps b s (called b c) t i g o in
-    let before : (replay_of b i).0 ≡ (key_in b (At g.k)).replay.0 = ap (λ (x : Timestamp). x.0) (replay_in b s i g.k o) in
-    let after : (replay_of (called b c).book i).0 ≡ (key_in (called b c).book (At g.k)).replay.0 = ap (λ (x : Timestamp). x.0) (replay_in (called b c).book t i g.k k) in
+    let o : is_key i (key_in b (Some g.k)) ≡ true = subst (λ (x : KeyId). is_key x (key_in b (Some g.k)) ≡ true) n g.its_key in
+    let k : is_key i (key_in (called b c).book (Some g.k)) ≡ true = grant_keeps b s (called b c) t i g o in
+    let before : (replay_of b i).0 ≡ (key_in b (Some g.k)).replay.0 = ap (λ (x : Timestamp). x.0) (replay_in b s i g.k o) in
+    let after : (replay_of (called b c).book i).0 ≡ (key_in (called b c).book (Some g.k)).replay.0 = ap (λ (x : Timestamp). x.0) (replay_in (called b c).book t i g.k k) in
     let same : g.message.ts.0 ≡ ts.0 = ap (λ (m : Message). m.ts.0) e ∙ ap (λ (x : Timestamp). x.0) l.at_ts in
     let below : (replay_of b i).0 < ts.0 = ltb-true (replay_of b i).0 ts.0 (unlive (replay_of b i) ts l.is_live) in
-    let set : (key_in (called b c).book (At g.k)).replay.0 ≡ g.message.ts.0 = replays_live g.replays (omega arith) in
+    let set : (key_in (called b c).book (Some g.k)).replay.0 ≡ g.message.ts.0 = replays_live g.replays (omega arith) in
     (ap missing (key_at_is (called b c).book t i g.k k), after ∙ set ∙ same)
 
 pub repeat_never_live : RepeatNeverLive
@@ -184,7 +184,7 @@ no_ts_twice_live z b s i ts c cs d once holds twice = clash twice.is_live (repea
 
 -- ## The purse
 
-open_took : {b : Pages} {x : List ℕ} {a : After} (g : Grant b x a) → took a.reply ≡ paid_from_purse (right_in a.book (At g.p)).account
+open_took : {b : Pages} {x : List ℕ} {a : After} (g : Grant b x a) → took a.reply ≡ paid_from_purse (right_in a.book (Some g.p)).account
 unfolding took
 open_took g = ap took g.reply
 
@@ -227,11 +227,11 @@ cannot_pay : {x y : Account} {p q : Tokens} (n : TrafficKeys) → Pays x p y q �
 cannot_pay n (from_counter {before} e) h q = let w : before ≡ n = cc in let v = ap (λ (k : TrafficKeys). k.0) w in omega arith
 cannot_pay n (from_purse e) h q = let z : ◌≡◌ {A = ℕ} 0 1 = cc in omega arith
 
-module _ (b : Pages) (x : List ℕ) (m : Message) (e : (reading x).frame ≡ Whole (MessageFrame m)) (p : ℕ) (n : TrafficKeys) (h : (right_in b (At p)).account ≡ Counted n) (q : n.0 ≡ 0) where
-  not_this : {f : Frame} → (reading x).frame ≡ Whole f → f ≡ MessageFrame m
-  not_this r = let w : ◌≡◌ {A = Seen} (Whole _) (Whole (MessageFrame m)) = sym r ∙ e in cc
+module _ (b : Pages) (x : List ℕ) (m : Message) (e : (reading x).frame ≡ Ok (MessageFrame m)) (p : ℕ) (n : TrafficKeys) (h : (right_in b (Some p)).account ≡ Counted n) (q : n.0 ≡ 0) where
+  not_this : {f : Frame} → (reading x).frame ≡ Ok f → f ≡ MessageFrame m
+  not_this r = let w : ◌≡◌ {A = Seen} (Ok _) (Ok (MessageFrame m)) = sym r ∙ e in cc
 
-  exhausted_in : {u : List ℕ} {a : After} → Outcome b x u a → right_in a.book (At p) ≡ right_in b (At p)
+  exhausted_in : {u : List ℕ} {a : After} → Outcome b x u a → right_in a.book (Some p) ≡ right_in b (Some p)
   unfolding right_in at
   exhausted_in (refused r y c w) = ap (λ (y : Pages). get_or y.rights p free_right) w.book
   exhausted_in (limit_passed l y o c w) = ap (λ (y : Pages). get_or y.rights p free_right) w.book

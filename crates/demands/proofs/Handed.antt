@@ -29,7 +29,7 @@ use Rattle.rules.proofs.Refusals.{Passed}
 use Rattle.rules.proofs.OneCall.{refusal_code_lem}
 use Rattle.rules.proofs.View.{Refuses, plain, over, Done, refused, was_loaded, was_erased, was_granted, was_reported, was_dropped, call_done}
 use Rattle.rules.proofs.Kept.{blank_sound, call_sound, key_at_is}
-use Rattle.demands.specs.Types.{Found, At, Timestamp, KeyId, Right, Key, Load, Reply, Seen}
+use Rattle.demands.specs.Types.{Option, Some, Timestamp, KeyId, Right, Key, Load, Reply, Seen}
 use Rattle.demands.specs.Runs.{Call, called, final, events}
 use Rattle.demands.specs.Demand3.{Given, never, last, carries_for, given_by, last_given, HandsOut, GrantsHandOutTheKey}
 
@@ -38,7 +38,7 @@ Keeps : Pages → (KeyId → Given) → Type 0
 Keeps b old = (i : KeyId) (j : ℕ) → is_key i (get_or b.keys j free_key) ≡ true → last (get_or b.keys j free_key).bytes ≡ old i
 
 module _ (b : Pages) (old : KeyId → Given) (h : Keeps b old) where
-  key_in_keeps : (k : Found) (m : KeyId) → is_key m (key_in b k) ≡ true → last (key_in b k).bytes ≡ old m
+  key_in_keeps : (k : Option ℕ) (m : KeyId) → is_key m (key_in b k) ≡ true → last (key_in b k).bytes ≡ old m
   unfolding Keeps key_in
   key_in_keeps k m = at_all free_key b.keys (λ y. is_key m y ≡ true → last y.bytes ≡ old m) (λ e. clash e (is_key-free m)) (h m) k
 
@@ -46,7 +46,7 @@ module _ (b : Pages) (old : KeyId → Given) (h : Keeps b old) where
   unfolding key_in key_at
   key_at_keeps i e = key_in_keeps (key_at b i) i (first_sat free_key b.keys (λ k. is_key i k) e)
 
-  granted_keeps : (k r : Found) (ts : Timestamp) → Keeps (granted b k r ts) old
+  granted_keeps : (k r : Option ℕ) (ts : Timestamp) → Keeps (granted b k r ts) old
   unfolding Keeps granted granted_key
   granted_keeps k r ts m j = put_elim (λ y. is_key m y ≡ true → last y.bytes ≡ old m) free_key k _ b.keys j (λ e. key_in_keeps k m) (h m j)
 
@@ -84,7 +84,7 @@ module _ {z : Sizes} (b : Pages) (s : Sound z b) (old : KeyId → Given) (h : Ke
           let g : l.name.id ≡ i = same_id_eq q in
           key_at_keeps b old h l.name.id (carried_or_held (missing (key_at b l.name.id)) (rw e at known)) ∙ ap old g
 
-      there : (key_room b l.name.id ≡ At j → ⊥) → is_key i (get_or b.keys j free_key) ≡ true → (same_id l.name.id i ≡ true) ⊎ (same_id l.name.id i ≡ false)
+      there : (key_room b l.name.id ≡ Some j → ⊥) → is_key i (get_or b.keys j free_key) ≡ true → (same_id l.name.id i ≡ true) ⊎ (same_id l.name.id i ≡ false)
           → last (get_or b.keys j free_key).bytes ≡ (if l.flags.key && same_id l.name.id i then last key else old i)
       there f t (inl e) = let g : l.name.id ≡ i = same_id_eq e in absurd (f (rw (g, key_at_is b s i j t)))
       there f t (inr e) = rw (e, and_false l.flags.key) (h i j t)

@@ -7,7 +7,7 @@ use Rattle.rules.specs.Pages.{Pages, Sizes, key_at, right_in}
 use Rattle.rules.specs.Messages.{replay_of}
 use Rattle.rules.specs.Replies.{code}
 use Rattle.rules.specs.Sound.{Sound}
-use Rattle.demands.specs.Types.{At, TrafficKeys, Timestamp, KeyId, Counted, Purse, Account, Message, Reply, Loaded, Deleted, Granted, Reported, OverHeld, OverNew, Refused, MessageFrame, Whole}
+use Rattle.demands.specs.Types.{Some, TrafficKeys, Timestamp, KeyId, Counted, Purse, Account, Message, Reply, Loaded, Deleted, Granted, Reported, OverHeld, OverNew, Refused, MessageFrame, Ok}
 use Rattle.demands.specs.Runs.{Call, called, final, replies}
 
 -- ## No TS is granted twice as live for one ID while its key is held
@@ -20,7 +20,7 @@ pub data Holding (i : KeyId) : Pages → List Call → Type 0 where
 -- the call is a message for the ID with this TS, live, and it is granted
 pub record LiveGrant (i : KeyId) (ts : Timestamp) (b : Pages) (c : Call) : Type 0 where
   pub message : Message
-  pub read : (reading c.frame).frame ≡ Whole (MessageFrame message)
+  pub read : (reading c.frame).frame ≡ Ok (MessageFrame message)
   pub for_id : message.id ≡ i
   pub at_ts : message.ts ≡ ts
   pub is_live : live (replay_of b i) ts ≡ true
@@ -79,5 +79,5 @@ PurseLosesWhatGrantsTook =
 
 abbrev pub ExhaustedStays : Type 0
 ExhaustedStays =
-    (z : Sizes) (b : Pages) → Sound z b → (c : Call) (m : Message) → (reading c.frame).frame ≡ Whole (MessageFrame m)
-    → (p : ℕ) (none : TrafficKeys) → (right_in b (At p)).account ≡ Counted none → none.0 ≡ 0 → right_in (called b c).book (At p) ≡ right_in b (At p)
+    (z : Sizes) (b : Pages) → Sound z b → (c : Call) (m : Message) → (reading c.frame).frame ≡ Ok (MessageFrame m)
+    → (p : ℕ) (none : TrafficKeys) → (right_in b (Some p)).account ≡ Counted none → none.0 ≡ 0 → right_in (called b c).book (Some p) ≡ right_in b (Some p)

@@ -7,7 +7,7 @@ use Rattle.frames.specs.Layouts.{load_widths, length_with}
 use Rattle.frames.specs.Reading.{reading}
 use Rattle.rules.specs.Pages.{Pages, empty_book}
 use Rattle.rules.specs.Replies.{code}
-use Rattle.demands.specs.Types.{Book, Called, KeyId, Key, Message, LoadFrame, MessageFrame, ReportFrame, DeleteFrame, Seen, Whole, Unread}
+use Rattle.demands.specs.Types.{Book, Called, KeyId, Key, Message, LoadFrame, MessageFrame, ReportFrame, DeleteFrame, Seen, Ok, Err}
 use Rattle.book.specs.Pages.{pages}
 use Rattle.demands.specs.Demand2.{Promised, Ran, told}
 use Rattle.demands.specs.Runs.{Call, Event, called, final, events, replies}
@@ -53,11 +53,11 @@ pub data Given : Type 0 where
 
 -- the frame is a load that carries a key for the ID
 unfoldable pub carries_for : KeyId → Seen → Bool
-carries_for i (Whole (LoadFrame l)) = l.flags.key && same_id l.name.id i
-carries_for i (Whole (MessageFrame m)) = false
-carries_for i (Whole (ReportFrame n)) = false
-carries_for i (Whole (DeleteFrame n)) = false
-carries_for i (Unread r) = false
+carries_for i (Ok (LoadFrame l)) = l.flags.key && same_id l.name.id i
+carries_for i (Ok (MessageFrame m)) = false
+carries_for i (Ok (ReportFrame n)) = false
+carries_for i (Ok (DeleteFrame n)) = false
+carries_for i (Err r) = false
 
 -- an accepted load that carries a key for the ID gives it
 unfoldable pub given_by : KeyId → Given → Event → Given
@@ -70,7 +70,7 @@ last_given i old (e ∷ es) = last_given i (given_by i old e) es
 -- the frame is a message, and the buffer holds what its ID was last given
 pub record HandsOut (x : Seen) (old : KeyId → Given) (u : List ℕ) : Type 0 where
   pub message : Message
-  pub asked : x ≡ Whole (MessageFrame message)
+  pub asked : x ≡ Ok (MessageFrame message)
   pub handed : last u ≡ old message.id
 
 -- at each grant the lent buffer holds the key of the latest accepted load that carried one for the ID, and no other bytes; so there was such a load

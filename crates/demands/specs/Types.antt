@@ -1,6 +1,5 @@
 -- The types that the demands speak of, and their cases, under one name.
-pub use Rattle.places.specs.declared.Found.{Found}
-pub use Rattle.places.specs.declared.Found.TheVariants.{At, Nowhere}
+pub use Rattle.std.specs.Prelude.{Option, Some, None}
 pub use Rattle.figures.specs.declared.names.Tokens.{Tokens}
 pub use Rattle.figures.specs.declared.names.TrafficKeys.{TrafficKeys}
 pub use Rattle.figures.specs.declared.names.Timestamp.{Timestamp}
@@ -24,8 +23,8 @@ pub use Rattle.figures.specs.declared.replies.Reply.{Reply}
 pub use Rattle.figures.specs.declared.replies.Reply.TheVariants.{Loaded, Deleted, Granted, Reported, OverHeld, OverNew, Refused}
 pub use Rattle.frames.specs.declared.Frame.{Frame}
 pub use Rattle.frames.specs.declared.Frame.TheVariants.{Load as LoadFrame, Message as MessageFrame, Report as ReportFrame, Delete as DeleteFrame}
-pub use Rattle.frames.specs.declared.Seen.{Seen}
-pub use Rattle.frames.specs.declared.Seen.TheVariants.{Whole, Unread}
+pub use Rattle.std.specs.Prelude.{Ok, Err}
+pub use Rattle.frames.specs.Types.{Seen}
 pub use Rattle.frames.specs.declared.ReadFrame.{ReadFrame}
 pub use Rattle.book.specs.declared.Book.{Book}
 pub use Rattle.book.specs.declared.Called.{Called}

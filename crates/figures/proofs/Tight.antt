@@ -1,24 +1,23 @@
 -- Each promise of a public function has one outcome: two that it allows coincide. It is stated of the promises themselves. Assumes nothing.
-use mathlib.Core.Path.{◌≡◌, refl, sym, ◌∙◌}
+use mathlib.Core.Path.{◌≡◌, sym, ◌∙◌}
 use contract.Lifetimes.{Lfts}
-use Rattle.places.specs.Words.{failed}
-use Rattle.places.specs.declared.Verdict.{Verdict}
-use Rattle.places.specs.declared.Verdict.TheVariants.{Passed, Failed}
+use Rattle.std.proofs.Math.Bool.{and_assoc}
+use Rattle.figures.specs.Names.{same_id, same_name}
 use Rattle.figures.proofs.accounts.Credit.of.Reads as Credit-of
 use Rattle.figures.proofs.accounts.Account.can_pay.Reads as Account-can-pay
 use Rattle.figures.proofs.accounts.Account.charged.Reads as Account-charged
 use Rattle.figures.proofs.accounts.Account.spend.Reads as Account-spend
 use Rattle.figures.proofs.accounts.Account.counter.Reads as Account-counter
 use Rattle.figures.proofs.keys.Key.free.Reads as Key-free
-use Rattle.figures.proofs.keys.Key.meets.Reads as Key-meets
+use Rattle.figures.proofs.keys.KeyHeld.is_named.Reads as Key-is-named
 use Rattle.figures.proofs.keys.Key.granted.Reads as Key-granted
 use Rattle.figures.proofs.keys.Key.loaded.Reads as Key-loaded
 use Rattle.figures.proofs.loads.Load.settled.Reads as Load-settled
 use Rattle.figures.proofs.loads.Load.right.Reads as Load-right
 use Rattle.figures.proofs.loads.Load.free_of_cost.Reads as Load-free-of-cost
 use Rattle.figures.proofs.loads.Load.bare.Reads as Load-bare
-use Rattle.figures.proofs.names.KeyId.same.Reads as KeyId-same
-use Rattle.figures.proofs.names.RightName.same.Reads as RightName-same
+use Rattle.figures.proofs.names.KeyIdPartialEq.eq.Reads as KeyId-eq
+use Rattle.figures.proofs.names.RightNamePartialEq.eq.Reads as RightName-eq
 use Rattle.figures.proofs.names.Interval.covers.Reads as Interval-covers
 use Rattle.figures.proofs.names.Interval.proper.Reads as Interval-proper
 use Rattle.figures.proofs.names.Timestamp.live.Reads as Timestamp-live
@@ -29,20 +28,14 @@ use Rattle.figures.proofs.policies.is_deletion.Reads as is-deletion
 use Rattle.figures.proofs.policies.policy.Reads as policy
 use Rattle.figures.proofs.policies.count_limit.Reads as count-limit
 use Rattle.figures.proofs.policies.purse_limit.Reads as purse_limit
-use Rattle.figures.proofs.replies.Refusal.code.Reads as Refusal-code
+use Rattle.figures.proofs.replies.U8FromRefusal.from.Reads as U8-from-Refusal
 use Rattle.figures.proofs.rights.Right.free.Reads as Right-free
-use Rattle.figures.proofs.rights.Right.meets.Reads as Right-meets
+use Rattle.figures.proofs.rights.RightHeld.is_named.Reads as Right-is-named
+use Rattle.figures.proofs.rights.Right.is_of.Reads as Right-is-of
 use Rattle.figures.proofs.rights.Right.fits.Reads as Right-fits
 use Rattle.figures.proofs.rights.Right.charged.Reads as Right-charged
 use Rattle.figures.proofs.rights.Right.unless_of.Reads as Right-unless-of
-use Rattle.places.proofs.Lists.{clash}
-
--- a verdict is what it says of a refusal's test
-pub verdict_once : (v w : Verdict) → failed v ≡ failed w → v ≡ w
-verdict_once Passed Passed e = refl
-verdict_once Passed Failed e = clash e refl
-verdict_once Failed Passed e = clash refl e
-verdict_once Failed Failed e = refl
+use Rattle.places.proofs.Tight.{verdict_once}
 
 pub Credit-of_once : (κs : Lfts 0) (a : _) (r r' : _) (s s' : _) → Credit-of.Post κs a r s → Credit-of.Post κs a r' s' → r ≡ r'
 Credit-of_once κs a r r' s s' p q = p ∙ sym q
@@ -62,8 +55,8 @@ Account-counter_once κs a r r' s s' p q = p ∙ sym q
 pub Key-free_once : (κs : Lfts 0) (a : _) (r r' : _) (s s' : _) → Key-free.Post κs a r s → Key-free.Post κs a r' s' → r ≡ r'
 Key-free_once κs a r r' s s' p q = p ∙ sym q
 
-pub Key-meets_once : (κs : Lfts 0) (a : _) (r r' : _) (s s' : _) → Key-meets.Post κs a r s → Key-meets.Post κs a r' s' → r ≡ r'
-Key-meets_once κs a r r' s s' p q = p ∙ sym q
+pub KeyHeld-is_named_once : (κs : Lfts 0) (a : _) (r r' : _) (s s' : _) → Key-is-named.Post κs a r s → Key-is-named.Post κs a r' s' → r ≡ r'
+KeyHeld-is_named_once κs a r r' s s' p q = p ∙ sym q
 
 pub Key-granted_once : (κs : Lfts 0) (a : _) (r r' : _) (s s' : _) → Key-granted.Post κs a r s → Key-granted.Post κs a r' s' → r ≡ r'
 Key-granted_once κs a r r' s s' p q = p ∙ sym q
@@ -83,11 +76,20 @@ Load-free_of_cost_once κs a r r' s s' p q = verdict_once r r' (p ∙ sym q)
 pub Load-bare_once : (κs : Lfts 0) (a : _) (r r' : _) (s s' : _) → Load-bare.Post κs a r s → Load-bare.Post κs a r' s' → r ≡ r'
 Load-bare_once κs a r r' s s' p q = verdict_once r r' (p ∙ sym q)
 
-pub KeyId-same_once : (κs : Lfts 0) (a : _) (r r' : _) (s s' : _) → KeyId-same.Post κs a r s → KeyId-same.Post κs a r' s' → r ≡ r'
+-- of `==`, which the derive writes
+pub KeyId-same_once : (κs : Lfts 2) (a : _) (r r' : _) (s s' : _) → KeyId-eq.Post κs a r s → KeyId-eq.Post κs a r' s' → r ≡ r'
 KeyId-same_once κs a r r' s s' p q = p ∙ sym q
 
-pub RightName-same_once : (κs : Lfts 0) (a : _) (r r' : _) (s s' : _) → RightName-same.Post κs a r s → RightName-same.Post κs a r' s' → r ≡ r'
+pub KeyId-eq_is : (κs : Lfts 2) (a : _) (r : _) (s : _) → KeyId-eq.Post κs a r s → r ≡ same_id a.0.now a.1.0.now
+unfolding same_id
+KeyId-eq_is κs a r s p = p ∙ simp and_assoc
+
+pub RightName-same_once : (κs : Lfts 2) (a : _) (r r' : _) (s s' : _) → RightName-eq.Post κs a r s → RightName-eq.Post κs a r' s' → r ≡ r'
 RightName-same_once κs a r r' s s' p q = p ∙ sym q
+
+pub RightName-eq_is : (κs : Lfts 2) (a : _) (r : _) (s : _) → RightName-eq.Post κs a r s → r ≡ same_name a.0.now a.1.0.now
+unfolding same_id same_name
+RightName-eq_is κs a r s p = p ∙ simp and_assoc
 
 pub Interval-covers_once : (κs : Lfts 0) (a : _) (r r' : _) (s s' : _) → Interval-covers.Post κs a r s → Interval-covers.Post κs a r' s' → r ≡ r'
 Interval-covers_once κs a r r' s s' p q = p ∙ sym q
@@ -119,14 +121,17 @@ count_limit_once κs a r r' s s' p q = p ∙ sym q
 pub purse_limit_once : (κs : Lfts 0) (a : _) (r r' : _) (s s' : _) → purse_limit.Post κs a r s → purse_limit.Post κs a r' s' → r ≡ r'
 purse_limit_once κs a r r' s s' p q = p ∙ sym q
 
-pub Refusal-code_once : (κs : Lfts 0) (a : _) (r r' : _) (s s' : _) → Refusal-code.Post κs a r s → Refusal-code.Post κs a r' s' → r ≡ r'
-Refusal-code_once κs a r r' s s' p q = p ∙ sym q
+pub U8FromRefusal-from_once : (κs : Lfts 0) (a : _) (r r' : _) (s s' : _) → U8-from-Refusal.Post κs a r s → U8-from-Refusal.Post κs a r' s' → r ≡ r'
+U8FromRefusal-from_once κs a r r' s s' p q = p ∙ sym q
 
 pub Right-free_once : (κs : Lfts 0) (a : _) (r r' : _) (s s' : _) → Right-free.Post κs a r s → Right-free.Post κs a r' s' → r ≡ r'
 Right-free_once κs a r r' s s' p q = p ∙ sym q
 
-pub Right-meets_once : (κs : Lfts 0) (a : _) (r r' : _) (s s' : _) → Right-meets.Post κs a r s → Right-meets.Post κs a r' s' → r ≡ r'
-Right-meets_once κs a r r' s s' p q = p ∙ sym q
+pub RightHeld-is_named_once : (κs : Lfts 0) (a : _) (r r' : _) (s s' : _) → Right-is-named.Post κs a r s → Right-is-named.Post κs a r' s' → r ≡ r'
+RightHeld-is_named_once κs a r r' s s' p q = p ∙ sym q
+
+pub Right-is_of_once : (κs : Lfts 0) (a : _) (r r' : _) (s s' : _) → Right-is-of.Post κs a r s → Right-is-of.Post κs a r' s' → r ≡ r'
+Right-is_of_once κs a r r' s s' p q = p ∙ sym q
 
 pub Right-fits_once : (κs : Lfts 0) (a : _) (r r' : _) (s s' : _) → Right-fits.Post κs a r s → Right-fits.Post κs a r' s' → r ≡ r'
 Right-fits_once κs a r r' s s' p q = p ∙ sym q

@@ -1,7 +1,7 @@
 -- One key: a free place, the tests of look-ups, and what a load or a grant leaves.
-use Rattle.std.specs.Prelude.{ℕ, Bool, true, false, not, ◌&&◌, List, replicate, if◌then◌else◌}
+use Rattle.std.specs.Prelude.{ℕ, Bool, true, false, ◌&&◌, List, replicate, if◌then◌else◌}
 use Rattle.figures.specs.Limits.{key_bytes}
-use Rattle.figures.specs.Types.{Timestamp, KeyId, Key, WantedKey, WithId, FreeKey}
+use Rattle.figures.specs.Types.{Timestamp, KeyId, Key}
 use Rattle.figures.specs.Names.{same_id, no_id, live}
 
 -- sixteen zero bytes
@@ -15,11 +15,6 @@ free_key = record { held = false; id = no_id; replay = record { 0 = 0 }; bytes =
 -- the key of an ID
 abbrev pub is_key : KeyId → Key → Bool
 is_key i k = k.held && same_id k.id i
-
--- what a look-up wants
-abbrev pub meets_key : WantedKey → Key → Bool
-meets_key (WithId i) k = is_key i k
-meets_key FreeKey k = not k.held
 
 -- 01, What a short term message does: a live grant sets the replay counter to TS, a playback grant leaves it
 unfoldable pub granted_key : Timestamp → Key → Key

@@ -1,8 +1,6 @@
 -- What a load makes of an account and a purse: 01, What a load does.
 use Rattle.std.specs.Prelude.{ℕ, ◌+◌, Bool, true, not, ◌&&◌, ◌||◌, ltb, eqb, if◌then◌else◌}
-use Rattle.figures.specs.Types.{Tokens, Account, Counted, Purse, Credit, ToCounter, ToPurse, Right, Load, Settlement, Within, Past}
-use Rattle.figures.specs.declared.loads.Total.{Total}
-use Rattle.figures.specs.declared.loads.Total.TheVariants.{Sum, Over}
+use Rattle.figures.specs.Types.{Tokens, Account, Counted, Purse, Credit, ToCounter, ToPurse, Right, Load, Settled, Option, Some, None}
 use Rattle.figures.specs.Policies.{is_counted, count_limit, purse_limit_of}
 use Rattle.figures.specs.Accounts.{counter, credit_of}
 
@@ -11,8 +9,8 @@ unfoldable pub raised : Bool → ℕ → ℕ → ℕ
 raised add before amount = if add then before + amount else amount
 
 -- a number that must not pass a limit
-unfoldable pub total_of : ℕ → ℕ → Total
-total_of limit n = if ltb limit n then Over else Sum n
+unfoldable pub total_of : ℕ → ℕ → Option ℕ
+total_of limit n = if ltb limit n then None else Some n
 
 -- what a load brings
 abbrev pub credit_in : Load → Credit
@@ -34,10 +32,10 @@ over_by (ToCounter n) l held purse = ltb (count_limit l.name.spe).0 (raised l.fl
 over_by (ToPurse t) l held purse = ltb (purse_limit_of l.name.spe).0 (raised l.flags.add purse.0 t.0)
 
 -- both, or that the limit is passed
-unfoldable pub settled : Load → Account → Tokens → Settlement
+unfoldable pub settled : Load → Account → Tokens → Option Settled
 settled l held purse =
-    if over_by (credit_in l) l held purse then Past
-    else Within (record { account = account_by (credit_in l) l held; purse = purse_by (credit_in l) l purse })
+    if over_by (credit_in l) l held purse then None
+    else Some (record { account = account_by (credit_in l) l held; purse = purse_by (credit_in l) l purse })
 
 -- the right that a load leaves, with the account settled
 unfoldable pub loaded_right : Load → Account → Right

@@ -1,8 +1,8 @@
 -- One right: a free place, the tests of look-ups, fitting a message, and what a grant leaves.
-use Rattle.std.specs.Prelude.{Bool, false, not, ◌&&◌, if◌then◌else◌}
+use Rattle.std.specs.Prelude.{Bool, false, ◌&&◌, if◌then◌else◌}
 use Rattle.std.specs.Bool.{beq}
 use Rattle.figures.specs.Limits.{no_spe}
-use Rattle.figures.specs.Types.{Timestamp, KeyId, RightName, Counted, Right, Message, WantedRight, Named, OfId, FreeRight}
+use Rattle.figures.specs.Types.{Timestamp, KeyId, RightName, Counted, Right, Message}
 use Rattle.figures.specs.Names.{same_id, same_name, no_id, covers, live}
 use Rattle.figures.specs.Policies.{is_live}
 use Rattle.figures.specs.Accounts.{charged}
@@ -22,12 +22,6 @@ is_right n r = r.held && same_name r.name n
 
 abbrev pub is_of : KeyId → Right → Bool
 is_of i r = r.held && same_id r.name.id i
-
--- what a look-up wants
-abbrev pub meets_right : WantedRight → Right → Bool
-meets_right (Named n) r = is_right n r
-meets_right (OfId i) r = is_of i r
-meets_right FreeRight r = not r.held
 
 -- 01, What a short term message does: it has the message's ID, covers its TS, and is live or playback as the message is
 unfoldable pub fits : Message → Timestamp → Right → Bool

@@ -11,17 +11,12 @@ pub use Rattle.figures.specs.declared.accounts.Account.TheVariants.{Counted, Pur
 pub use Rattle.figures.specs.declared.accounts.Credit.{Credit}
 pub use Rattle.figures.specs.declared.accounts.Credit.TheVariants.{ToCounter, ToPurse}
 pub use Rattle.figures.specs.declared.rights.Right.{Right}
-pub use Rattle.figures.specs.declared.rights.WantedRight.{WantedRight}
-pub use Rattle.figures.specs.declared.rights.WantedRight.TheVariants.{Named, OfId, FreeRight}
 pub use Rattle.figures.specs.declared.keys.Key.{Key}
-pub use Rattle.figures.specs.declared.keys.WantedKey.{WantedKey}
-pub use Rattle.figures.specs.declared.keys.WantedKey.TheVariants.{WithId, FreeKey}
 pub use Rattle.figures.specs.declared.loads.Flags.{Flags}
 pub use Rattle.figures.specs.declared.loads.Load.{Load}
 pub use Rattle.figures.specs.declared.loads.Message.{Message}
 pub use Rattle.figures.specs.declared.loads.Settled.{Settled}
-pub use Rattle.figures.specs.declared.loads.Settlement.{Settlement}
-pub use Rattle.figures.specs.declared.loads.Settlement.TheVariants.{Within, Past}
+pub use Rattle.std.specs.Prelude.{Option, Some, None}
 pub use Rattle.figures.specs.declared.replies.Refusal.{Refusal}
 pub use Rattle.figures.specs.declared.replies.Refusal.TheVariants.{BufferLength, Unreadable, Policy, Fields, EmptyInterval, UnknownId, Full, Integrity, NoFit, NoFunds, NotHeld}
 pub use Rattle.figures.specs.declared.replies.Shown.{Shown}

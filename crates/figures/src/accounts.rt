@@ -1,5 +1,5 @@
 // What a right pays from, and what a load's amount is once its SPE is known.
-ghost use Rattle.std.specs.Prelude.{◌≡◌, ◌-◌};
+ghost use Rattle.std.specs.Prelude.{◌≡◌};
 ghost use Rattle.figures.specs.Accounts.{can_pay, charged, spent, counter, credit_of};
 
 use crate::names::{Tokens, TrafficKeys};
@@ -26,17 +26,11 @@ impl Credit {
         ensures { result ≡ credit_of spe amount }
     {
         if is_counted(spe) {
-            return Credit::ToCounter(TrafficKeys(amount));
+            Credit::ToCounter(TrafficKeys(amount))
+        } else {
+            Credit::ToPurse(Tokens(amount))
         }
-        Credit::ToPurse(Tokens(amount))
     }
-}
-
-// a - b, and 0 where there is less.
-fn less(a: u32, b: u32) -> u32
-    ensures { result ≡ a - b }
-{
-    if b <= a { a - b } else { 0 }
 }
 
 impl Account {
@@ -45,7 +39,7 @@ impl Account {
     {
         match self {
             Account::Counted(left) => 1 <= left.0,
-            Account::Purse(cost) => cost.0 <= purse.0,
+            Account::Purse(cost) => cost <= purse,
         }
     }
 
@@ -54,8 +48,8 @@ impl Account {
         ensures { result ≡ charged self }
     {
         match self {
-            Account::Counted(left) => Account::Counted(TrafficKeys(less(left.0, 1))),
-            Account::Purse(cost) => Account::Purse(cost),
+            Account::Counted(left) => Account::Counted(TrafficKeys(left.0.saturating_sub(1))),
+            Account::Purse(_) => self,
         }
     }
 
@@ -65,7 +59,7 @@ impl Account {
     {
         match self {
             Account::Counted(_) => purse,
-            Account::Purse(cost) => Tokens(less(purse.0, cost.0)),
+            Account::Purse(cost) => Tokens(purse.0.saturating_sub(cost.0)),
         }
     }
 

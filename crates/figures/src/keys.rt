@@ -1,10 +1,12 @@
-// One key: what it holds, which look-up wants it, and what a load or a grant leaves of it.
+// One key: what it holds, whose it is, and what a load or a grant leaves of it.
 ghost use Rattle.std.specs.Prelude.{◌≡◌};
-ghost use Rattle.figures.specs.Keys.{free_key, meets_key, granted_key, loaded_key};
+ghost use Rattle.figures.specs.Keys.{free_key, is_key, granted_key, loaded_key};
 
+use crate::held::Held;
 use crate::limits::KEY_BYTES;
 use crate::names::{KeyId, NO_ID, Timestamp};
 
+// No `Option<Key>`: 01, The shape of each place, wants an array of key structs, a free place has zero bytes (`free_key`), and C keeps it so.
 #[repr(C)]
 #[derive(Clone, Copy)]
 pub struct Key {
@@ -21,11 +23,21 @@ pub const FREE_KEY: Key = Key {
     bytes: [0; KEY_BYTES],
 };
 
-// What a look-up of keys wants.
-#[derive(Clone, Copy)]
-pub enum WantedKey {
-    WithId(KeyId),
-    FreeKey,
+impl Held for Key {
+    type Name = KeyId;
+
+    ghost named = { λ i k. is_key i k };
+
+    ghost taken = { λ k. k.held };
+
+    #[tactic(auto, unfolding(crate::specs::Names::same_id))]
+    fn is_named(self, id: KeyId) -> bool {
+        self.held && self.id == id
+    }
+
+    fn is_held(self) -> bool {
+        self.held
+    }
 }
 
 impl Key {
@@ -36,26 +48,16 @@ impl Key {
         FREE_KEY
     }
 
-    pub fn meets(self, want: WantedKey) -> bool
-        ensures { result ≡ meets_key want self }
-    {
-        match want {
-            WantedKey::WithId(id) => self.held & self.id.same(id),
-            WantedKey::FreeKey => !self.held,
-        }
-    }
-
     // The key after a grant: a live one moves its replay counter.
     #[tactic(auto, unfolding(crate::specs::Keys::granted_key))]
     pub fn granted(self, ts: Timestamp) -> Key
         ensures { result ≡ granted_key ts self }
     {
-        let mut next = self;
         if ts.live(self.replay) {
-            next.replay = ts;
-            return next;
+            Key { replay: ts, ..self }
+        } else {
+            self
         }
-        next
     }
 
     // The key after a load: held under the ID, with the load's bytes where it carries some.
@@ -63,13 +65,12 @@ impl Key {
     pub fn loaded(self, id: KeyId, carried: bool, bytes: [u8; KEY_BYTES]) -> Key
         ensures { result ≡ loaded_key id carried bytes self }
     {
-        let mut next = self;
-        next.held = true;
-        next.id = id;
-        if carried {
-            next.bytes = bytes;
-            return next;
+        let bytes = if carried { bytes } else { self.bytes };
+        Key {
+            held: true,
+            id,
+            bytes,
+            ..self
         }
-        next
     }
 }

@@ -2,6 +2,7 @@
 #![tactic(auto)]
 
 pub mod accounts;
+pub mod held;
 pub mod keys;
 pub mod limits;
 pub mod loads;

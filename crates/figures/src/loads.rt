@@ -31,13 +31,6 @@ pub struct Message {
     pub good: bool,
 }
 
-// A sum within its limit, or past it.
-#[derive(Clone, Copy)]
-pub enum Total {
-    Sum(u32),
-    Over,
-}
-
 // What a load leaves of the right's account and of the purse.
 #[derive(Clone, Copy)]
 pub struct Settled {
@@ -45,59 +38,40 @@ pub struct Settled {
     pub purse: Tokens,
 }
 
-#[derive(Clone, Copy)]
-pub enum Settlement {
-    Within(Settled),
-    Past,
-}
-
-// Set to the amount or raised by it, tested before anything is stored.
+// Set to the amount or raised by it, where that is within the limit: tested before anything is stored.
 #[tactic(auto, unfolding(crate::specs::Loads::total_of, crate::specs::Loads::raised))]
-fn summed(limit: u32, add: bool, before: u32, amount: u32) -> Total
+fn summed(limit: u32, add: bool, before: u32, amount: u32) -> Option<u32>
     ensures { result ≡ total_of limit (raised add before amount) }
 {
-    if add {
-        let sum = before as u64 + amount as u64;
-        if (limit as u64) < sum {
-            return Total::Over;
-        }
-        return Total::Sum(sum as u32);
-    }
-    if limit < amount {
-        return Total::Over;
-    }
-    Total::Sum(amount)
+    let sum = if add {
+        before.checked_add(amount)?
+    } else {
+        amount
+    };
+    if sum <= limit { Some(sum) } else { None }
 }
 
 impl Load {
-    // The account of the right and the purse after this load, or that a limit is passed.
-    pub fn settled(self, held: Account, purse: Tokens) -> Settlement
+    // The account of the right and the purse after this load, where no limit is passed.
+    pub fn settled(self, held: Account, purse: Tokens) -> Option<Settled>
         ensures { result ≡ settled self held purse }
     {
         let spe = self.name.spe;
         let add = self.flags.add;
         match Credit::of(spe, self.amount) {
             Credit::ToCounter(keys) => {
-                let before = held.counter();
                 let limit = count_limit(spe);
-                let Total::Sum(sum) = summed(limit.0, add, before.0, keys.0) else {
-                    return Settlement::Past;
-                };
-                Settlement::Within(Settled {
-                    account: Account::Counted(TrafficKeys(sum)),
-                    purse: purse,
-                })
+                let before = held.counter();
+                let sum = summed(limit.0, add, before.0, keys.0)?;
+                let account = Account::Counted(TrafficKeys(sum));
+                Some(Settled { account, purse })
             }
             Credit::ToPurse(tokens) => {
                 let limit = purse_limit(spe);
-                let Total::Sum(sum) = summed(limit.0, add, purse.0, tokens.0) else {
-                    return Settlement::Past;
-                };
-                let cost = self.cost;
-                Settlement::Within(Settled {
-                    account: Account::Purse(cost),
-                    purse: Tokens(sum),
-                })
+                let sum = summed(limit.0, add, purse.0, tokens.0)?;
+                let account = Account::Purse(self.cost);
+                let purse = Tokens(sum);
+                Some(Settled { account, purse })
             }
         }
     }
@@ -107,11 +81,10 @@ impl Load {
     pub fn right(self, account: Account) -> Right
         ensures { result ≡ loaded_right self account }
     {
-        let name = self.name;
         Right {
             held: true,
-            name: name,
-            account: account,
+            name: self.name,
+            account,
         }
     }
 
@@ -120,11 +93,7 @@ impl Load {
     pub fn free_of_cost(self) -> Verdict
         ensures { failed result ≡ costly self }
     {
-        if is_counted(self.name.spe) & (self.cost.0 != 0) {
-            Verdict::Failed
-        } else {
-            Verdict::Passed
-        }
+        Verdict::unless(is_counted(self.name.spe) && self.cost.0 != 0)
     }
 
     // Fails where a deletion has a flag, an amount or a cost.
@@ -132,10 +101,6 @@ impl Load {
     pub fn bare(self) -> Verdict
         ensures { failed result ≡ laden self }
     {
-        if self.flags.add | self.flags.key | (self.amount != 0) | (self.cost.0 != 0) {
-            Verdict::Failed
-        } else {
-            Verdict::Passed
-        }
+        Verdict::unless(self.flags.add || self.flags.key || self.amount != 0 || self.cost.0 != 0)
     }
 }

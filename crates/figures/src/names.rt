@@ -1,28 +1,28 @@
 // The three figures, kept apart, and what names a key or a right.
 ghost use Rattle.std.specs.Prelude.{◌≡◌};
 ghost use Rattle.places.specs.Words.{failed};
-ghost use Rattle.figures.specs.Names.{same_id, same_name, covers, empty, live};
+ghost use Rattle.figures.specs.Names.{covers, empty, live};
 
 use places::Verdict;
 
 #[repr(C)]
-#[derive(Clone, Copy)]
+#[derive(Clone, Copy, PartialEq, Eq, PartialOrd, Ord)]
 pub struct Tokens(pub u32);
 
 #[repr(C)]
-#[derive(Clone, Copy)]
+#[derive(Clone, Copy, PartialEq, Eq, PartialOrd, Ord)]
 pub struct TrafficKeys(pub u32);
 
 #[repr(C)]
-#[derive(Clone, Copy)]
+#[derive(Clone, Copy, PartialEq, Eq, PartialOrd, Ord)]
 pub struct Timestamp(pub u32);
 
 #[repr(C)]
-#[derive(Clone, Copy)]
+#[derive(Clone, Copy, PartialEq, Eq)]
 pub struct KeyDomain(pub u8, pub u8, pub u8);
 
 #[repr(C)]
-#[derive(Clone, Copy)]
+#[derive(Clone, Copy, PartialEq, Eq)]
 pub struct KeyId {
     pub domain: KeyDomain,
     pub group: u16,
@@ -31,14 +31,14 @@ pub struct KeyId {
 
 // From TS low, which is outside, to TS high, which is inside.
 #[repr(C)]
-#[derive(Clone, Copy)]
+#[derive(Clone, Copy, PartialEq, Eq)]
 pub struct Interval {
     pub low: Timestamp,
     pub high: Timestamp,
 }
 
 #[repr(C)]
-#[derive(Clone, Copy)]
+#[derive(Clone, Copy, PartialEq, Eq)]
 pub struct RightName {
     pub id: KeyId,
     pub interval: Interval,
@@ -51,45 +51,12 @@ pub const NO_ID: KeyId = KeyId {
     number: 0,
 };
 
-impl KeyId {
-    #[tactic(auto, unfolding(crate::specs::Names::same_id))]
-    pub fn same(self, other: KeyId) -> bool
-        ensures { result ≡ same_id self other }
-    {
-        // The number tells most IDs apart, so that a walk is short.
-        if self.number != other.number {
-            return false;
-        }
-        (self.domain.0 == other.domain.0)
-            & (self.domain.1 == other.domain.1)
-            & (self.domain.2 == other.domain.2)
-            & (self.group == other.group)
-            & (self.number == other.number)
-    }
-}
-
-impl RightName {
-    #[tactic(auto, unfolding(crate::specs::Names::same_name))]
-    pub fn same(self, other: RightName) -> bool
-        ensures { result ≡ same_name self other }
-    {
-        let same_id = self.id.same(other.id);
-        if !same_id {
-            return false;
-        }
-        same_id
-            & (self.interval.low.0 == other.interval.low.0)
-            & (self.interval.high.0 == other.interval.high.0)
-            & (self.spe == other.spe)
-    }
-}
-
 impl Interval {
     #[tactic(auto, unfolding(crate::specs::Names::covers))]
     pub fn covers(self, ts: Timestamp) -> bool
         ensures { result ≡ covers self ts }
     {
-        (self.low.0 < ts.0) & (ts.0 <= self.high.0)
+        self.low < ts && ts <= self.high
     }
 
     // Fails where no TS can lie inside.
@@ -97,11 +64,7 @@ impl Interval {
     pub fn proper(self) -> Verdict
         ensures { failed result ≡ empty self }
     {
-        if self.high.0 <= self.low.0 {
-            Verdict::Failed
-        } else {
-            Verdict::Passed
-        }
+        Verdict::unless(self.high <= self.low)
     }
 }
 
@@ -111,6 +74,6 @@ impl Timestamp {
     pub fn live(self, replay: Timestamp) -> bool
         ensures { result ≡ live replay self }
     {
-        replay.0 < self.0
+        replay < self
     }
 }

@@ -10,25 +10,26 @@ use crate::limits::{
 use crate::names::{Tokens, TrafficKeys};
 use places::Verdict;
 
+// An SPE stays a byte: 01, The shape of each place, has numbers in a frame's fields, and a frame may bring any byte. Each test is a definition's.
 #[tactic(auto, unfolding(crate::specs::Policies::is_live))]
 pub fn is_live(spe: u8) -> bool
     ensures { result ≡ is_live spe }
 {
-    (spe == LIVE_PURSE) | (spe == LIVE_COUNTED)
+    matches!(spe, LIVE_PURSE | LIVE_COUNTED)
 }
 
 #[tactic(auto, unfolding(crate::specs::Policies::is_counted))]
 pub fn is_counted(spe: u8) -> bool
     ensures { result ≡ is_counted spe }
 {
-    (spe == LIVE_COUNTED) | (spe == PLAYBACK_COUNTED)
+    matches!(spe, LIVE_COUNTED | PLAYBACK_COUNTED)
 }
 
 #[tactic(auto, unfolding(crate::specs::Policies::is_purse))]
 pub fn is_purse(spe: u8) -> bool
     ensures { result ≡ is_purse spe }
 {
-    (spe == LIVE_PURSE) | (spe == PLAYBACK_PURSE)
+    matches!(spe, LIVE_PURSE | PLAYBACK_PURSE)
 }
 
 #[tactic(auto, unfolding(crate::specs::Policies::is_deletion))]
@@ -43,11 +44,7 @@ pub fn is_deletion(spe: u8) -> bool
 pub fn policy(spe: u8) -> Verdict
     ensures { failed result ≡ not (holds_right spe) }
 {
-    if is_purse(spe) | is_counted(spe) {
-        Verdict::Passed
-    } else {
-        Verdict::Failed
-    }
+    Verdict::unless(!(is_purse(spe) || is_counted(spe)))
 }
 
 // The limit of a counter; SPE 0C has one of its own.
@@ -56,9 +53,10 @@ pub fn count_limit(spe: u8) -> TrafficKeys
     ensures { result ≡ count_limit spe }
 {
     if spe == LIVE_COUNTED {
-        return TrafficKeys(LIVE_LIMIT);
+        TrafficKeys(LIVE_LIMIT)
+    } else {
+        TrafficKeys(PLAYBACK_LIMIT)
     }
-    TrafficKeys(PLAYBACK_LIMIT)
 }
 
 // The limit of the purse that a right of the SPE pays from: all pay from the user purse.

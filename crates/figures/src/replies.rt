@@ -41,11 +41,12 @@ pub enum Reply {
     Refused(Refusal),
 }
 
-impl Refusal {
-    pub fn code(self) -> u8
-        ensures { result ≡ refusal_code self }
-    {
-        match self {
+// The paper's number.
+impl From<Refusal> for u8 {
+    ghost from_gives = { λ why code. code ≡ refusal_code why };
+
+    fn from(why: Refusal) -> u8 {
+        match why {
             Refusal::BufferLength => 0x10,
             Refusal::Unreadable => 0x11,
             Refusal::Policy => 0x12,

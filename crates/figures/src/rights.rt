@@ -1,13 +1,15 @@
-// One right: what it holds, which look-up wants it, which message it fits, and what a grant or a deletion leaves of it.
+// One right: what it holds, whose it is, which message it fits, and what a grant or a deletion leaves of it.
 ghost use Rattle.std.specs.Prelude.{◌≡◌};
-ghost use Rattle.figures.specs.Rights.{free_right, meets_right, fits, charged_right, unless_of};
+ghost use Rattle.figures.specs.Rights.{free_right, is_right, is_of, fits, charged_right, unless_of};
 
 use crate::accounts::Account;
+use crate::held::Held;
 use crate::limits::NO_SPE;
 use crate::loads::Message;
 use crate::names::{Interval, KeyId, NO_ID, RightName, Timestamp, Tokens, TrafficKeys};
 use crate::policies::is_live;
 
+// No `Option<Right>`, as for a key: an array of right structs, and what a free place holds (`free_right`).
 #[derive(Clone, Copy)]
 pub struct Right {
     pub held: bool,
@@ -28,12 +30,21 @@ pub const FREE_RIGHT: Right = Right {
     account: Account::Counted(TrafficKeys(0)),
 };
 
-// What a look-up of rights wants.
-#[derive(Clone, Copy)]
-pub enum WantedRight {
-    Named(RightName),
-    OfId(KeyId),
-    FreeRight,
+impl Held for Right {
+    type Name = RightName;
+
+    ghost named = { λ n r. is_right n r };
+
+    ghost taken = { λ r. r.held };
+
+    #[tactic(auto, unfolding(crate::specs::Names::same_id, crate::specs::Names::same_name))]
+    fn is_named(self, name: RightName) -> bool {
+        self.held && self.name == name
+    }
+
+    fn is_held(self) -> bool {
+        self.held
+    }
 }
 
 impl Right {
@@ -44,14 +55,12 @@ impl Right {
         FREE_RIGHT
     }
 
-    pub fn meets(self, want: WantedRight) -> bool
-        ensures { result ≡ meets_right want self }
+    // A right of an ID.
+    #[tactic(auto, unfolding(crate::specs::Names::same_id))]
+    pub fn is_of(self, id: KeyId) -> bool
+        ensures { result ≡ is_of id self }
     {
-        match want {
-            WantedRight::Named(name) => self.held & self.name.same(name),
-            WantedRight::OfId(id) => self.held & self.name.id.same(id),
-            WantedRight::FreeRight => !self.held,
-        }
+        self.held && self.name.id == id
     }
 
     // Whether the right fits a message, by the replay counter of its key.
@@ -59,27 +68,19 @@ impl Right {
     pub fn fits(self, message: Message, replay: Timestamp) -> bool
         ensures { result ≡ fits message replay self }
     {
-        let same_id = self.name.id.same(message.id);
-        if !same_id {
-            return false;
-        }
-        self.held
-            & same_id
-            & self.name.interval.covers(message.ts)
-            & (is_live(self.name.spe) == message.ts.live(replay))
+        self.is_of(message.id)
+            && self.name.interval.covers(message.ts)
+            && is_live(self.name.spe) == message.ts.live(replay)
     }
 
-    // The right after a grant that it pays for. A field that is an enum is not stored to: the struct is made anew.
+    // The right after a grant that it pays for.
     #[tactic(auto, unfolding(crate::specs::Rights::charged_right))]
     pub fn charged(self) -> Right
         ensures { result ≡ charged_right self }
     {
-        let name = self.name;
-        let account = self.account;
         Right {
-            held: self.held,
-            name: name,
-            account: account.charged(),
+            account: self.account.charged(),
+            ..self
         }
     }
 
@@ -88,9 +89,6 @@ impl Right {
     pub fn unless_of(self, id: KeyId) -> Right
         ensures { result ≡ unless_of id self }
     {
-        if self.meets(WantedRight::OfId(id)) {
-            return FREE_RIGHT;
-        }
-        self
+        if self.is_of(id) { FREE_RIGHT } else { self }
     }
 }

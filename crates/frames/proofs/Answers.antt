@@ -1,18 +1,15 @@
 -- How long a written frame is, and what the writer answers where the buffer is long enough and where it is not. Assumes nothing.
-use Prim.Native.Nat.{ℕ, ◌+◌, ◌≤◌, ◌<◌}
-use mathlib.Core.Path.{◌≡◌, refl, sym, ap, ap₂, ◌∙◌}
-use mathlib.Core.Bool.{Bool, true, false}
-use mathlib.Core.List.{List, [], ◌++◌}
+use Prim.Native.Nat.{ℕ, ◌≤◌, ◌<◌}
+use mathlib.Core.Path.{◌≡◌, refl, sym, ap, ◌∙◌}
+use mathlib.Core.List.{List, ◌++◌}
 use lib.ListN.{length, drop, length-append}
 use lib.Seq.{sets}
 use borrow.Author.Tests.{lt-ltb, le-ltb}
 use native.Mathlib.Omega.{arith}
-use Rattle.std.specs.Prelude.{if◌then◌else◌}
 use Rattle.figures.specs.Limits.{key_bytes}
-use Rattle.frames.specs.Types.{Frame, LoadFrame, MessageFrame, ReportFrame, DeleteFrame, Load, Count, Unwritten, BufferLength}
-use Rattle.frames.specs.Numbers.{join, total}
-use Rattle.frames.specs.Layouts.{load_widths, widths_of, has_key, whole_length}
-use Rattle.frames.specs.Writing.{load_numbers, numbers_of, written_as, outcome, written, writing}
+use Rattle.frames.specs.Types.{Frame, LoadFrame, MessageFrame, ReportFrame, DeleteFrame, Ok, Err, BufferLength}
+use Rattle.frames.specs.Layouts.{widths_of, whole_length}
+use Rattle.frames.specs.Writing.{numbers_of, written_as, outcome, written, writing}
 use Rattle.frames.proofs.Widths.{length-join}
 use Rattle.frames.proofs.Stores.{sets_front}
 
@@ -23,32 +20,17 @@ numbers_many (MessageFrame m) = refl
 numbers_many (ReportFrame n) = refl
 numbers_many (DeleteFrame n) = refl
 
-carried-length : (t : Bool) (k : List ℕ) → length k ≡ key_bytes → length (if t then k else []) ≡ (if t then key_bytes else 0)
-carried-length true k e = e
-carried-length false k e = refl
-
 -- a frame with a key of sixteen bytes is as long as the table says
 pub written-length : (f : Frame) (k : List ℕ) → length k ≡ key_bytes → length (written_as f k) ≡ whole_length f
 unfolding written_as
 written-length f k e =
-    length-append (join (widths_of f) (numbers_of f)) (if has_key f then k else [])
-    ∙ ap₂ ◌+◌ (length-join (widths_of f) (numbers_of f) (numbers_many f)) (carried-length (has_key f) k e)
-
--- ## The stores of a load
-
-module _ (l : Load) (k u : List ℕ) where
-  pub stored-key : l.flags.key ≡ true → sets (sets u 0 (join load_widths (load_numbers l))) (total load_widths) k ≡ sets u 0 (written_as (LoadFrame l) k)
-  unfolding written_as
-  stored-key t = ap (λ (b : Bool). sets u 0 (join load_widths (load_numbers l) ++ (if b then k else []))) (sym t)
-
-  pub stored_bare : l.flags.key ≡ false → sets u 0 (join load_widths (load_numbers l)) ≡ sets u 0 (written_as (LoadFrame l) k)
-  unfolding written_as
-  stored_bare t = ap (λ (b : Bool). sets u 0 (join load_widths (load_numbers l) ++ (if b then k else []))) (sym t)
+    let j = length-join (widths_of f) (numbers_of f) (numbers_many f) in
+    simp length-append (grind arith)
 
 -- ## The answer
 
 module _ (f : Frame) (k u : List ℕ) where
-  pub too_short : length u < whole_length f → outcome (Unwritten BufferLength) u ≡ writing f k u
+  pub too_short : length u < whole_length f → outcome (Err BufferLength) u ≡ writing f k u
   unfolding writing
   too_short h = rw (lt-ltb (length u) (whole_length f) h)
 
@@ -56,8 +38,8 @@ module _ (f : Frame) (k u : List ℕ) where
   unfolding writing
   has_room h = rw (le-ltb (length u) (whole_length f) h)
 
-  pub long_enough : length k ≡ key_bytes → whole_length f ≤ length u → outcome (Count (whole_length f)) (sets u 0 (written_as f k)) ≡ writing f k u
+  pub long_enough : length k ≡ key_bytes → whole_length f ≤ length u → outcome (Ok (whole_length f)) (sets u 0 (written_as f k)) ≡ writing f k u
   long_enough e h =
       let n = written-length f k e in
       let m : length (written_as f k) ≤ length u = omega arith in
-      ap (outcome (Count (whole_length f))) (sets_front (written_as f k) u m ∙ ap (λ (i : ℕ). written_as f k ++ drop i u) n) ∙ sym (has_room h)
+      ap (outcome (Ok (whole_length f))) (sets_front (written_as f k) u m ∙ ap (λ (i : ℕ). written_as f k ++ drop i u) n) ∙ sym (has_room h)

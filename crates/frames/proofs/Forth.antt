@@ -12,7 +12,7 @@ use Rattle.std.specs.Prelude.{if◌then◌else◌}
 use Rattle.places.proofs.Tests.{if_elim}
 use Rattle.figures.specs.Limits.{key_bytes}
 use Rattle.figures.specs.Keys.{zeros}
-use Rattle.frames.specs.Types.{Frame, LoadFrame, Seen, Whole, Unread, ReadFrame}
+use Rattle.frames.specs.Types.{Frame, LoadFrame, Seen, Ok, Err, ReadFrame}
 use Rattle.frames.specs.Numbers.{split, join, total}
 use Rattle.frames.specs.Layouts.{report_kind, delete_kind, message_widths, right_widths, load_widths, length_with, bit}
 use Rattle.frames.specs.Reading.{name_from, flags_from, load_from, message_from, spare_clear, is_mark, flags_in, mark_in, is_load, is_message, is_right, seen, key_beside, reading}
@@ -23,8 +23,8 @@ use Rattle.frames.proofs.Tests.{load_passes, message_passes, right_passes}
 
 -- what was seen is written as s again
 abbrev Back : Seen → List ℕ → List ℕ → Type 0
-Back (Whole f) k s = written_as f k ≡ s
-Back (Unread r) k s = Unit {0}
+Back (Ok f) k s = written_as f k ≡ s
+Back (Err r) k s = Unit {0}
 
 flags_again : (b : ℕ) → spare_clear b ≡ true → flags_byte (flags_from b) ≡ b
 flags_again zero h = refl

@@ -6,10 +6,9 @@ use denote.Laws.{Is}
 use Rattle.frames.specs.Types.{Frame, LoadFrame, MessageFrame, ReportFrame, DeleteFrame}
 use Rattle.frames.specs.RoundTrips.{Fits}
 use Rattle.frames.specs.contracts.Frame.{the_row}
-use Rattle.frames.proofs.Stores.{mark_small}
 
 pub held_fits : (f : Frame) (vs : List Val) → Is the_row f vs → Fits f
-held_fits (LoadFrame l) vs p = omega (arith, mark_small l.flags.add 1, mark_small l.flags.key 2)
-held_fits (MessageFrame m) vs p = omega (arith, mark_small m.good 1)
+held_fits (LoadFrame l) vs p = grind arith
+held_fits (MessageFrame m) vs p = grind arith
 held_fits (ReportFrame n) vs p = omega arith
 held_fits (DeleteFrame n) vs p = omega arith

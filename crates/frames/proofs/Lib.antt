@@ -1,4 +1,5 @@
 -- Laws on plain values, for the proofs of this crate and of its callers, and its theorems.
+pub mod BigEndian
 pub mod Widths
 pub mod Stores
 pub mod Tests

@@ -1,13 +1,11 @@
 -- Laws of runs of stores. Assumes nothing.
-use mathlib.Core.Path.{◌≡◌, ◌∙◌}
-use mathlib.Core.Bool.{Bool, true, false}
+use mathlib.Core.Path.{◌≡◌}
 use mathlib.Core.List.{List, [], ◌∷◌, ◌++◌}
 use Prim.Native.Nat.{ℕ, suc, ◌+◌, ◌≤◌}
 use native.Mathlib.Nat.{add-zero, add-suc, suc-add, zero-add}
 use native.Mathlib.Omega.{arith}
 use lib.ListN.{length, drop, set}
 use lib.Seq.{sets, sets-eq}
-use Rattle.std.specs.Prelude.{if◌then◌else◌}
 
 -- one more store after a run of stores
 pub sets-snoc : (vs l : List ℕ) (i : ℕ) (a : ℕ) → set (sets l i vs) (i + length vs) a ≡ sets l i (vs ++ (a ∷ []))
@@ -16,9 +14,4 @@ sets-snoc (v ∷ vs) l i a = rw (add-suc, ← suc-add) (sets-snoc vs (set l i v)
 
 -- a run of stores from the front on is the stored list, and what comes after it as found
 pub sets_front : (vs l : List ℕ) → length vs ≤ length l → sets l 0 vs ≡ vs ++ drop (length vs) l
-sets_front vs l h = let m : 0 + length vs ≤ length l = omega arith in sets-eq vs l 0 m ∙ simp zero-add
-
--- the number of a set bit or mark is at most its value
-pub mark_small : (t : Bool) (n : ℕ) → (if t then n else 0) ≤ n
-mark_small true n = omega arith
-mark_small false n = omega arith
+sets_front vs l h = rw zero-add at (sets-eq vs l 0 (omega arith))

@@ -43,7 +43,6 @@ right_passes k s e = record { kind = search (eqb-true, and_left); long = search 
 pub load_long : (s : List ℕ) → is_load s ≡ true → total load_widths ≤ length s
 load_long s e =
     let h = (load_passes s e).long in
-    let m : total load_widths ≤ length_with load_widths (bit 1 (flags_in s)) = omega arith in
     omega arith
 
 pub keyed_long : (s : List ℕ) → key_present s ≡ true → total load_widths + key_bytes ≤ length s

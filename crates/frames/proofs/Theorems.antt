@@ -12,7 +12,7 @@ use denote.Laws.{Is}
 use Rattle.std.specs.Prelude.{if◌then◌else◌}
 use Rattle.figures.specs.Limits.{key_bytes}
 use Rattle.figures.specs.Keys.{zeros}
-use Rattle.frames.specs.Types.{Frame, Seen, Whole, Unread, Refusal, Unreadable, BufferLength, Unwritten}
+use Rattle.frames.specs.Types.{Frame, Seen, Ok, Err, Refusal, Unreadable, BufferLength, Err}
 use Rattle.frames.specs.Numbers.{total}
 use Rattle.frames.specs.Layouts.{report_kind, delete_kind, load_widths, message_widths, right_widths, length_with, has_key, whole_length}
 use Rattle.frames.specs.Reading.{is_load, is_message, is_right, seen, key_beside, reading}
@@ -67,11 +67,11 @@ pub record RefusedRead (s : List ℕ) (x : Refusal) : Type 0 where
   pub code : x ≡ Unreadable
   pub zero : key_beside s ≡ zeros
 
-whole_or : (t : Bool) (f : Frame) (y : Seen) (x : Refusal) → (if t then Whole f else y) ≡ Unread x → (t ≡ false) × (y ≡ Unread x)
-whole_or true f y x e = let z : ◌≡◌ {A = ℕ} 0 1 = cc in absurd (omega arith)
+whole_or : (t : Bool) (f : Frame) (y : Seen) (x : Refusal) → (if t then Ok f else y) ≡ Err x → (t ≡ false) × (y ≡ Err x)
+whole_or true f y x e = cc
 whole_or false f y x e = (refl, e)
 
-pub refused_read : (s : List ℕ) (x : Refusal) → seen s ≡ Unread x → RefusedRead s x
+pub refused_read : (s : List ℕ) (x : Refusal) → seen s ≡ Err x → RefusedRead s x
 unfolding seen key_beside
 refused_read s x e =
     let a = whole_or (is_load s) _ _ x e in
@@ -86,15 +86,15 @@ pub record RefusedWrite (f : Frame) (k u : List ℕ) (x : Refusal) : Type 0 wher
   pub short : length u < whole_length f
   pub same : (writing f k u).buffer ≡ u
 
-refused_by : (f : Frame) (k u : List ℕ) (t : Bool) (x : Refusal) → (if t then unwritten u else written f k u).answer ≡ Unwritten x
+refused_by : (f : Frame) (k u : List ℕ) (t : Bool) (x : Refusal) → (if t then unwritten u else written f k u).answer ≡ Err x
     → (x ≡ BufferLength) × (t ≡ true) × ((if t then unwritten u else written f k u).buffer ≡ u)
 refused_by f k u true x e = (cc, refl, refl)
-refused_by f k u false x e = let z : ◌≡◌ {A = ℕ} 0 1 = cc in absurd (omega arith)
+refused_by f k u false x e = cc
 
 pub wrote : (f : Frame) (k u : List ℕ) → whole_length f ≤ length u → writing f k u ≡ written f k u
 wrote f k u h = has_room f k u h
 
-pub refused_write : (f : Frame) (k u : List ℕ) (x : Refusal) → (writing f k u).answer ≡ Unwritten x → RefusedWrite f k u x
+pub refused_write : (f : Frame) (k u : List ℕ) (x : Refusal) → (writing f k u).answer ≡ Err x → RefusedWrite f k u x
 unfolding writing
 refused_write f k u x e =
     let h = refused_by f k u (ltb (length u) (whole_length f)) x e in

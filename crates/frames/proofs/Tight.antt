@@ -10,10 +10,6 @@ use Rattle.frames.proofs.writer.write.Reads as write
 use Rattle.frames.proofs.round_trips.written_and_read.Reads as written-and-read
 use Rattle.frames.proofs.round_trips.read_and_written.Reads as read-and-written
 use Rattle.frames.proofs.layouts.load_length.Reads as load-length
-use Rattle.frames.proofs.numbers.number2.Reads as number2
-use Rattle.frames.proofs.numbers.number4.Reads as number4
-use Rattle.frames.proofs.numbers.bytes2.Reads as bytes2
-use Rattle.frames.proofs.numbers.bytes4.Reads as bytes4
 
 -- an outcome of the writer is its answer and the buffer
 both : {r r' : Written} {u u' : List ℕ} → outcome r u ≡ outcome r' u' → (r ≡ r') × (u ≡ u')
@@ -35,15 +31,3 @@ read_and_written_once κs a r r' s s' p q = both (p ∙ sym q)
 
 pub load_length_once : (κs : _) (a : _) (r r' : _) (s s' : _) → load-length.Post κs a r s → load-length.Post κs a r' s' → r ≡ r'
 load_length_once κs a r r' s s' p q = p ∙ sym q
-
-pub number2_once : (κs : _) (a : _) (r r' : _) (s s' : _) → number2.Post κs a r s → number2.Post κs a r' s' → r ≡ r'
-number2_once κs a r r' s s' p q = p ∙ sym q
-
-pub number4_once : (κs : _) (a : _) (r r' : _) (s s' : _) → number4.Post κs a r s → number4.Post κs a r' s' → r ≡ r'
-number4_once κs a r r' s s' p q = p ∙ sym q
-
-pub bytes2_once : (κs : _) (a : _) (r r' : _) (s s' : _) → bytes2.Post κs a r s → bytes2.Post κs a r' s' → r ≡ r'
-bytes2_once κs a r r' s s' p q = p ∙ sym q
-
-pub bytes4_once : (κs : _) (a : _) (r r' : _) (s s' : _) → bytes4.Post κs a r s → bytes4.Post κs a r' s' → r ≡ r'
-bytes4_once κs a r r' s s' p q = p ∙ sym q

@@ -1,22 +1,20 @@
 -- Laws of big-endian numbers and of lists of them, over the width and over any list of widths. Assumes nothing.
 use mathlib.Core.Path.{◌≡◌, refl, sym, ap, ap₂, ◌∙◌}
 use mathlib.Core.List.{List, [], ◌∷◌, ◌++◌, append_assoc}
-use Prim.Native.Nat.{ℕ, zero, suc, ◌+◌, ◌*◌, ◌/◌, ◌%◌, ◌^◌, ◌≤◌, ◌<◌}
-use native.Mathlib.Nat.{add-zero, add-suc, suc-add, mod-one, mod-eq_of_lt, mul-add-div_right, mul-add-mod_self_right, pow-suc, pow-succ', mul_assoc, mul_comm}
+use Prim.Native.Nat.{ℕ, zero, suc, ◌+◌, ◌-◌, ◌*◌, ◌/◌, ◌%◌, ◌^◌, ◌≤◌, ◌<◌}
+use native.Mathlib.Nat.{one-le-pow, add-zero, add-suc, suc-add, mod-one, mod-eq_of_lt, mul-add-div_right, mul-add-mod_self_right, pow-suc, pow-succ'}
 use native.Mathlib.Omega.{arith}
 use lib.Pow.{pow-add}
-use lib.ListN.{length, take, drop, get_or, length-append, length-drop}
-use lib.Seq.{length-take-le, take_all, take-add, drop-cons, drop-drop, take-take, take_at, drop_at}
+use lib.ListN.{length, take, drop, length-append, length-drop}
+use lib.Seq.{length-take-le, take_all, take-add, drop-drop, take-take, take_at, drop_at}
 use lib.Arith.{digits_lt, digits_div, mod-mul}
 use lib.Dec.{lit<}
 use Rattle.frames.specs.Numbers.{number, bytes, field, split, join, total}
-use Rattle.frames.specs.RoundTrips.{Bytes, Fit}
+use Rattle.std.proofs.lemmas.List.{drop-take}
+use Rattle.std.proofs.lemmas.List.Elements.{All-head, All-tail, All-take, All-drop}
+use Rattle.frames.specs.RoundTrips.{IsByte, Bytes, Fit}
 
 -- ## One number
-
-pow_pos : (n : ℕ) → 0 < 256 ^ n
-pow_pos zero = lit< tt
-pow_pos (suc n) = let h : 0 < 256 ^ n = pow_pos n in rw (pow-succ' 256 n) (omega arith)
 
 pub length-bytes : (n x : ℕ) → length (bytes n x) ≡ n
 length-bytes zero x = refl
@@ -26,24 +24,19 @@ length-bytes (suc n) x = ap suc (length-bytes n x)
 pub number-bytes : (n x : ℕ) → number (bytes n x) ≡ x % 256 ^ n
 number-bytes zero x = sym (mod-one x)
 number-bytes (suc n) x =
-    rw (length-bytes n x, number-bytes n x, pow-succ' 256 n) (sym (mod-mul x (lit< tt) (pow_pos n)))
+    rw (length-bytes n x, number-bytes n x, pow-succ' 256 n) (sym (mod-mul x (lit< tt) (one-le-pow n 256 (lit< tt))))
 
 pub number_lt : (l : List ℕ) → Bytes l → number l < 256 ^ length l
 number_lt [] h = lit< tt
-number_lt (b ∷ l) h = rw (pow-succ' 256 (length l)) (digits_lt h.0 (number_lt l h.1))
-
-turned : (q p j : ℕ) → q * (p * 256 * j) ≡ q * j * 256 * p
-turned q p j =
-    ap (λ (x : ℕ). q * x) (mul_comm (p * 256) j ∙ ap (λ (x : ℕ). j * x) (mul_comm p 256))
-    ∙ sym (mul_assoc (q * j) 256 p ∙ mul_assoc q j (256 * p))
+number_lt (b ∷ l) h = rw (pow-succ' 256 (length l)) (digits_lt (All-head IsByte b l h) (number_lt l (All-tail IsByte b l h)))
 
 -- what stands above a number's lowest n bytes does not reach them
 high : (n j q m : ℕ) → bytes n (q * 256 ^ (n + j) + m) ≡ bytes n m
 high zero j q m = refl
 high (suc n) j q m =
-    let e : q * 256 ^ (suc n + j) ≡ q * 256 ^ j * 256 * 256 ^ n = rw (pow-add 256 (suc n) j, pow-suc 256 n) (turned q (256 ^ n) (256 ^ j)) in
+    let e : q * 256 ^ (suc n + j) ≡ q * 256 ^ j * 256 * 256 ^ n = rw (pow-add 256 (suc n) j, pow-suc 256 n) (omega arith) in
     ap₂ ◌∷◌
-    (rw (e, mul-add-div_right (pow_pos n) (q * 256 ^ j * 256) m) (mul-add-mod_self_right (q * 256 ^ j) 256 (m / 256 ^ n)))
+    (rw (e, mul-add-div_right (one-le-pow n 256 (lit< tt)) (q * 256 ^ j * 256) m) (mul-add-mod_self_right (q * 256 ^ j) 256 (m / 256 ^ n)))
     (rw (suc-add, ← add-suc) (high n (suc j) q m))
 
 -- a string of bytes is the bytes of the number that it spells
@@ -51,55 +44,16 @@ pub bytes-number : (l : List ℕ) → Bytes l → bytes (length l) (number l) �
 bytes-number [] h = refl
 bytes-number (b ∷ l) h =
     ap₂ ◌∷◌
-    (rw (digits_div b (number_lt l h.1)) (mod-eq_of_lt h.0))
-    ((let z = high (length l) 0 b (number l) in rw add-zero at z) ∙ bytes-number l h.1)
+    (rw (digits_div b (number_lt l (All-tail IsByte b l h))) (mod-eq_of_lt (All-head IsByte b l h)))
+    ((let z = high (length l) 0 b (number l) in rw add-zero at z) ∙ bytes-number l (All-tail IsByte b l h))
 
 -- ## A number at a place
-
--- the n bytes at at + k and on, one by one
-abbrev pub gather : List ℕ → ℕ → ℕ → ℕ → List ℕ
-gather s at k zero = []
-gather s at k (suc n) = get_or s (at + k) 0 ∷ gather s at (suc k) n
-
-part_gather : (s : List ℕ) (at k n : ℕ) → at + k + n ≤ length s → take n (drop (at + k) s) ≡ gather s at k n
-part_gather s at k zero h = refl
-part_gather s at k (suc n) h =
-    let l : at + k < length s = omega arith in
-    let m : at + suc k + n ≤ length s = omega arith in
-    rw (drop-cons s (at + k) 0 l, ← add-suc) (ap (λ (t : List ℕ). get_or s (at + k) 0 ∷ t) (part_gather s at (suc k) n m))
-
--- a field is the number that the bytes there spell
-pub field-gather : (s : List ℕ) (at n : ℕ) → at + n ≤ length s → field s at n ≡ number (gather s at 0 n)
-field-gather s at n h =
-    let m : at + 0 + n ≤ length s = omega arith in
-    rw (← part_gather s at 0 n m, add-zero)
-
--- a byte is the number that it spells
-pub field_one : (s : List ℕ) (at : ℕ) → at < length s → get_or s at 0 ≡ field s at 1
-field_one s at h = rw (drop-cons s at 0 h) (omega arith)
-
--- past the end stands 0
-pub field-none : (s : List ℕ) (at : ℕ) → length s ≤ at → 0 ≡ field s at 1
-field-none [] zero h = refl
-field-none [] (suc at) h = refl
-field-none (x ∷ s) zero h = absurd (let z : suc (length s) ≤ 0 = h in omega arith)
-field-none (x ∷ s) (suc at) h = field-none s at (let z : suc (length s) ≤ suc at = h in omega arith)
-
-Bytes-drop : (i : ℕ) (l : List ℕ) → Bytes l → Bytes (drop i l)
-Bytes-drop zero l h = h
-Bytes-drop (suc i) [] h = h
-Bytes-drop (suc i) (b ∷ l) h = Bytes-drop i l h.1
-
-Bytes-take : (i : ℕ) (l : List ℕ) → Bytes l → Bytes (take i l)
-Bytes-take zero l h = tt
-Bytes-take (suc i) [] h = tt
-Bytes-take (suc i) (b ∷ l) h = (h.0, Bytes-take i l h.1)
 
 -- the bytes of the number in a place are what stands there
 pub bytes-field : (s : List ℕ) (at n : ℕ) → Bytes s → at + n ≤ length s → bytes n (field s at n) ≡ take n (drop at s)
 bytes-field s at n b h =
     let e : length (take n (drop at s)) ≡ n = length-take-le n (drop at s) (simp length-drop (omega arith)) in
-    rw e at (bytes-number (take n (drop at s)) (Bytes-take n (drop at s) (Bytes-drop at s b)))
+    rw e at (bytes-number (take n (drop at s)) (All-take IsByte n (drop at s) (All-drop IsByte at s b)))
 
 -- the number that was written after p
 field-after : (p t : List ℕ) (w x : ℕ) → x < 256 ^ w → field (p ++ (bytes w x ++ t)) (length p) w ≡ x
@@ -110,11 +64,8 @@ field-after p t w x h = rw (drop_at p (bytes w x ++ t) (length p) refl, take_at 
 -- as long as the widths say
 pub length-join : (ws xs : List ℕ) → length ws ≡ length xs → length (join ws xs) ≡ total ws
 length-join [] xs e = refl
-length-join (w ∷ ws) [] e = absurd (let z : suc (length ws) ≡ 0 = e in omega arith)
-length-join (w ∷ ws) (x ∷ xs) e =
-    let z : suc (length ws) ≡ suc (length xs) = e in
-    let f : length ws ≡ length xs = omega arith in
-    simp (length-append, length-bytes, length-join ws xs f)
+length-join (w ∷ ws) [] e = absurd (omega arith)
+length-join (w ∷ ws) (x ∷ xs) e = simp (length-append, length-bytes, length-join ws xs (omega arith))
 
 -- to split and to join gives the bytes back
 pub join-split : (ws : List ℕ) (at : ℕ) (s : List ℕ) → Bytes s → at + total ws ≤ length s → join ws (split ws at s) ≡ take (total ws) (drop at s)
@@ -145,10 +96,10 @@ split-join ws xs t h = split_after ws xs [] t h
 -- ## The numbers in the first m bytes are those of the whole
 
 part_take : (at n m : ℕ) (s : List ℕ) → at + n ≤ m → take n (drop at (take m s)) ≡ take n (drop at s)
-part_take zero n m s h = take-take n m s (omega arith)
-part_take (suc at) n zero s h = absurd (let z : suc (at + n) ≤ 0 = omega arith in omega arith)
-part_take (suc at) n (suc m) [] h = refl
-part_take (suc at) n (suc m) (x ∷ s) h = part_take at n m s (omega arith)
+part_take at n m s h =
+    let e : at + (m - at) ≡ m = omega arith in
+    let k : n ≤ m - at = omega arith in
+    rw (← e, drop-take at (m - at) s) (take-take n (m - at) (drop at s) k)
 
 split-take : (ws : List ℕ) (at m : ℕ) (s : List ℕ) → at + total ws ≤ m → split ws at (take m s) ≡ split ws at s
 split-take [] at m s h = refl

@@ -2,7 +2,7 @@
 use Rattle.std.specs.Prelude.{ℕ, Bool, ◌&&◌, List, length, get_or, take, drop, eqb, ltb, if◌then◌else◌}
 use Rattle.figures.specs.Limits.{key_bytes}
 use Rattle.figures.specs.Keys.{zeros}
-use Rattle.frames.specs.Types.{KeyId, RightName, Flags, Load, Message, Unreadable, LoadFrame, MessageFrame, ReportFrame, DeleteFrame, Seen, Whole, Unread, ReadFrame}
+use Rattle.frames.specs.Types.{KeyId, RightName, Flags, Load, Message, Unreadable, LoadFrame, MessageFrame, ReportFrame, DeleteFrame, Seen, Ok, Err, ReadFrame}
 use Rattle.frames.specs.Numbers.{field, split, total}
 use Rattle.frames.specs.Layouts.{load_kind, message_kind, report_kind, delete_kind, message_widths, right_widths, load_widths, length_with, bit}
 
@@ -66,11 +66,11 @@ is_right k s = is_kind k s && eqb (length s) (total right_widths)
 -- 01, Frames: one of four kinds; 01, Replies, 11, where the reader's tests fail
 unfoldable pub seen : List ℕ → Seen
 seen s =
-    if is_load s then Whole (LoadFrame (load_from (split load_widths 0 s)))
-    else (if is_message s then Whole (MessageFrame (message_from (split message_widths 0 s)))
-    else (if is_right report_kind s then Whole (ReportFrame (name_from (split right_widths 0 s)))
-    else (if is_right delete_kind s then Whole (DeleteFrame (name_from (split right_widths 0 s)))
-    else Unread Unreadable)))
+    if is_load s then Ok (LoadFrame (load_from (split load_widths 0 s)))
+    else (if is_message s then Ok (MessageFrame (message_from (split message_widths 0 s)))
+    else (if is_right report_kind s then Ok (ReportFrame (name_from (split right_widths 0 s)))
+    else (if is_right delete_kind s then Ok (DeleteFrame (name_from (split right_widths 0 s)))
+    else Err Unreadable)))
 
 -- 01, Frames: a load whose flag bit 1 is set
 abbrev pub key_present : List ℕ → Bool

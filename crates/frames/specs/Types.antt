@@ -8,8 +8,14 @@ pub use Rattle.figures.specs.declared.replies.Refusal.{Refusal}
 pub use Rattle.figures.specs.declared.replies.Refusal.TheVariants.{BufferLength, Unreadable}
 pub use Rattle.frames.specs.declared.Frame.{Frame}
 pub use Rattle.frames.specs.declared.Frame.TheVariants.{Load as LoadFrame, Message as MessageFrame, Report as ReportFrame, Delete as DeleteFrame}
-pub use Rattle.frames.specs.declared.Seen.{Seen}
-pub use Rattle.frames.specs.declared.Seen.TheVariants.{Whole, Unread}
+use Rattle.std.specs.Prelude.{ℕ}
+pub use Rattle.std.specs.Prelude.{Result, Ok, Err}
 pub use Rattle.frames.specs.declared.ReadFrame.{ReadFrame}
-pub use Rattle.frames.specs.declared.Written.{Written}
-pub use Rattle.frames.specs.declared.Written.TheVariants.{Count, Unwritten}
+
+-- what a byte string reads as
+abbrev pub Seen : Type 0
+Seen = Result Frame Refusal
+
+-- how many bytes were written, or why none were
+abbrev pub Written : Type 0
+Written = Result ℕ Refusal

@@ -1,6 +1,6 @@
 -- What a frame is written as: 01, Frames.
 use Rattle.std.specs.Prelude.{ℕ, ◌+◌, Bool, List, [], ◌∷◌, ◌++◌, length, drop, ltb, if◌then◌else◌}
-use Rattle.frames.specs.Types.{KeyId, RightName, Flags, Load, Message, BufferLength, Frame, LoadFrame, MessageFrame, ReportFrame, DeleteFrame, Written, Count, Unwritten}
+use Rattle.frames.specs.Types.{KeyId, RightName, Flags, Load, Message, BufferLength, Frame, LoadFrame, MessageFrame, ReportFrame, DeleteFrame, Written, Ok, Err}
 use Rattle.frames.specs.Numbers.{join}
 use Rattle.frames.specs.Layouts.{load_kind, message_kind, report_kind, delete_kind, widths_of, has_key, whole_length}
 
@@ -59,11 +59,11 @@ outcome r u = record { answer = r; buffer = u }
 
 -- 01, Replies, 10: for the writer, buffer too short; nothing is altered
 abbrev pub unwritten : List ℕ → Writing
-unwritten u = outcome (Unwritten BufferLength) u
+unwritten u = outcome (Err BufferLength) u
 
 -- 01, Frames: the frame at the front, later bytes as found, the number of bytes written
 abbrev pub written : Frame → List ℕ → List ℕ → Writing
-written f k u = outcome (Count (whole_length f)) (written_as f k ++ drop (whole_length f) u)
+written f k u = outcome (Ok (whole_length f)) (written_as f k ++ drop (whole_length f) u)
 
 -- 01, Frames: refused exactly when the buffer is shorter than the frame
 unfoldable pub writing : Frame → List ℕ → List ℕ → Writing

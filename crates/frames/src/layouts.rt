@@ -4,7 +4,7 @@ ghost use Rattle.frames.specs.Layouts.{load_widths, length_with};
 
 use figures::limits::KEY_BYTES;
 
-// Byte 0 of each kind.
+// Byte 0 of each kind, as it is on the wire; the enum of the kinds is `Frame`.
 pub const LOAD: u8 = 0x01;
 
 pub const MESSAGE: u8 = 0x02;

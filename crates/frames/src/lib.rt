@@ -2,7 +2,6 @@
 #![tactic(auto)]
 
 pub mod layouts;
-pub mod numbers;
 pub mod reader;
 pub mod round_trips;
 pub mod writer;
@@ -21,23 +20,9 @@ pub enum Frame {
     Delete(RightName),
 }
 
-// What a byte string reads as.
-#[derive(Clone, Copy)]
-pub enum Seen {
-    Whole(Frame),
-    Unread(Refusal),
-}
-
-// The sixteen key bytes stand beside the frame.
+// What a byte string reads as. The sixteen key bytes stand beside the frame (01, The shape of each place), zeros where none is present.
 #[derive(Clone, Copy)]
 pub struct ReadFrame {
-    pub frame: Seen,
+    pub frame: Result<Frame, Refusal>,
     pub key: [u8; KEY_BYTES],
-}
-
-// How many bytes were written, or why none were.
-#[derive(Clone, Copy)]
-pub enum Written {
-    Count(usize),
-    Unwritten(Refusal),
 }

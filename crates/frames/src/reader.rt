@@ -1,6 +1,5 @@
 // The frame reader: 01, Frames. Each field is taken straight from the lent bytes.
 ghost use Rattle.std.specs.Prelude.{◌≡◌, ◌+◌, ◌≤◌, length, take, drop};
-ghost use Rattle.figures.specs.Limits.{key_bytes};
 ghost use Rattle.frames.specs.Numbers.{field, split, total};
 ghost use Rattle.frames.specs.Layouts.{id_widths, message_widths, right_widths, load_widths};
 ghost use Rattle.frames.specs.Reading.{id_from, name_from, flags_from, load_from, message_from, is_kind, is_load, is_message, is_right, seen, key_present, key_beside, reading};
@@ -9,46 +8,38 @@ use crate::layouts::{
     AMOUNT_AT, COST_AT, DELETE, DOMAIN_AT, FLAGS_AT, GROUP_AT, HIGH_AT, KEY_AT, KIND_AT, LOAD,
     LOW_AT, MARK_AT, MESSAGE, MESSAGE_BYTES, NUMBER_AT, REPORT, RIGHT_BYTES, SPE_AT, load_length,
 };
-use crate::numbers::{number2, number4};
-use crate::{Frame, ReadFrame, Seen};
+use crate::{Frame, ReadFrame};
 use figures::limits::KEY_BYTES;
 use figures::loads::{Flags, Load, Message};
 use figures::names::{Interval, KeyDomain, KeyId, RightName, Timestamp, Tokens};
 use figures::replies::Refusal;
 
 // The byte at a place; 0 past the end, which is no kind.
-fn field1(bytes: &[u8], at: usize) -> u8
+fn byte_at(bytes: &[u8], at: usize) -> u8
     ensures { result ≡ field bytes.now at 1 }
 {
-    if at < bytes.len() { bytes[at] } else { 0 }
+    bytes.get(at).copied().unwrap_or(0)
 }
 
-fn field2(bytes: &[u8], at: usize) -> u16
-    requires { at + 2 ≤ length bytes.now }
-    ensures { result ≡ field bytes.now at 2 }
+// The N bytes from a place on.
+fn bytes_at<const N: usize>(bytes: &[u8], at: usize) -> [u8; N]
+    requires { at + N ≤ length bytes.now }
+    ensures { result ≡ take N (drop at bytes.now) }
 {
-    number2(bytes[at], bytes[at + 1])
-}
-
-fn field4(bytes: &[u8], at: usize) -> u32
-    requires { at + 4 ≤ length bytes.now }
-    ensures { result ≡ field bytes.now at 4 }
-{
-    number4(bytes[at], bytes[at + 1], bytes[at + 2], bytes[at + 3])
+    let mut found = [0; N];
+    found.copy_from_slice(&bytes[at..at + N]);
+    found
 }
 
 fn id_in(bytes: &[u8]) -> KeyId
     requires { total id_widths ≤ length bytes.now }
     ensures { result ≡ id_from (split id_widths 0 bytes.now) }
 {
+    let [high, middle, low] = bytes_at::<3>(bytes, DOMAIN_AT);
     KeyId {
-        domain: KeyDomain(
-            field1(bytes, DOMAIN_AT),
-            field1(bytes, DOMAIN_AT + 1),
-            field1(bytes, DOMAIN_AT + 2),
-        ),
-        group: field2(bytes, GROUP_AT),
-        number: field2(bytes, NUMBER_AT),
+        domain: KeyDomain(high, middle, low),
+        group: u16::from_be_bytes(bytes_at(bytes, GROUP_AT)),
+        number: u16::from_be_bytes(bytes_at(bytes, NUMBER_AT)),
     }
 }
 
@@ -59,20 +50,20 @@ fn name_in(bytes: &[u8]) -> RightName
     RightName {
         id: id_in(bytes),
         interval: Interval {
-            low: Timestamp(field4(bytes, LOW_AT)),
-            high: Timestamp(field4(bytes, HIGH_AT)),
+            low: Timestamp(u32::from_be_bytes(bytes_at(bytes, LOW_AT))),
+            high: Timestamp(u32::from_be_bytes(bytes_at(bytes, HIGH_AT))),
         },
-        spe: field1(bytes, SPE_AT),
+        spe: byte_at(bytes, SPE_AT),
     }
 }
 
-// Bit 0 is add, bit 1 that the key is present.
+// Bit 0 is add, bit 1 that the key is present. No `From`: the flags and a byte both belong to crates below.
 fn flags_from(b: u8) -> Flags
     ensures { result ≡ flags_from b }
 {
     Flags {
-        add: b % 2 == 1,
-        key: b / 2 % 2 == 1,
+        add: b & 1 == 1,
+        key: b >> 1 & 1 == 1,
     }
 }
 
@@ -82,9 +73,9 @@ fn load_in(bytes: &[u8]) -> Load
 {
     Load {
         name: name_in(bytes),
-        flags: flags_from(field1(bytes, FLAGS_AT)),
-        amount: field4(bytes, AMOUNT_AT),
-        cost: Tokens(field4(bytes, COST_AT)),
+        flags: flags_from(byte_at(bytes, FLAGS_AT)),
+        amount: u32::from_be_bytes(bytes_at(bytes, AMOUNT_AT)),
+        cost: Tokens(u32::from_be_bytes(bytes_at(bytes, COST_AT))),
     }
 }
 
@@ -94,87 +85,75 @@ fn message_in(bytes: &[u8]) -> Message
 {
     Message {
         id: id_in(bytes),
-        ts: Timestamp(field4(bytes, LOW_AT)),
-        good: field1(bytes, MARK_AT) == 1,
+        ts: Timestamp(u32::from_be_bytes(bytes_at(bytes, LOW_AT))),
+        good: byte_at(bytes, MARK_AT) == 1,
     }
-}
-
-fn key_at(bytes: &[u8]) -> [u8; KEY_BYTES]
-    requires { total load_widths + key_bytes ≤ length bytes.now }
-    ensures { result ≡ take key_bytes (drop (total load_widths) bytes.now) }
-{
-    let mut key = [0; KEY_BYTES];
-    let mut i = 0;
-    while i < KEY_BYTES {
-        key[i] = bytes[KEY_AT + i];
-        i += 1;
-    }
-    key
 }
 
 fn is_kind(bytes: &[u8], kind: u8) -> bool
     ensures { result ≡ is_kind kind bytes.now }
 {
-    field1(bytes, KIND_AT) == kind
+    byte_at(bytes, KIND_AT) == kind
 }
 
 #[tactic(auto, unfolding(crate::specs::Reading::is_load))]
 fn is_load(bytes: &[u8]) -> bool
     ensures { result ≡ is_load bytes.now }
 {
-    let flags = field1(bytes, FLAGS_AT);
-    is_kind(bytes, LOAD) & (flags < 4) & (bytes.len() == load_length(flags_from(flags).key))
+    let flags = byte_at(bytes, FLAGS_AT);
+    is_kind(bytes, LOAD) && flags < 4 && bytes.len() == load_length(flags_from(flags).key)
 }
 
 #[tactic(auto, unfolding(crate::specs::Reading::is_message))]
 fn is_message(bytes: &[u8]) -> bool
     ensures { result ≡ is_message bytes.now }
 {
-    is_kind(bytes, MESSAGE) & (bytes.len() == MESSAGE_BYTES) & (field1(bytes, MARK_AT) < 2)
+    is_kind(bytes, MESSAGE) && bytes.len() == MESSAGE_BYTES && byte_at(bytes, MARK_AT) < 2
 }
 
 #[tactic(auto, unfolding(crate::specs::Reading::is_right))]
 fn is_right(bytes: &[u8], kind: u8) -> bool
     ensures { result ≡ is_right kind bytes.now }
 {
-    is_kind(bytes, kind) & (bytes.len() == RIGHT_BYTES)
+    is_kind(bytes, kind) && bytes.len() == RIGHT_BYTES
 }
 
 // The first row of the table whose tests pass; 11 where none does.
 #[tactic(auto, unfolding(crate::specs::Reading::seen))]
-fn seen(bytes: &[u8]) -> Seen
+fn seen(bytes: &[u8]) -> Result<Frame, Refusal>
     ensures { result ≡ seen bytes.now }
 {
     if is_load(bytes) {
-        return Seen::Whole(Frame::Load(load_in(bytes)));
+        return Ok(Frame::Load(load_in(bytes)));
     }
     if is_message(bytes) {
-        return Seen::Whole(Frame::Message(message_in(bytes)));
+        return Ok(Frame::Message(message_in(bytes)));
     }
     if is_right(bytes, REPORT) {
-        return Seen::Whole(Frame::Report(name_in(bytes)));
+        return Ok(Frame::Report(name_in(bytes)));
     }
     if is_right(bytes, DELETE) {
-        return Seen::Whole(Frame::Delete(name_in(bytes)));
+        return Ok(Frame::Delete(name_in(bytes)));
     }
-    Seen::Unread(Refusal::Unreadable)
+    Err(Refusal::Unreadable)
 }
 
 fn key_present(bytes: &[u8]) -> bool
     ensures { result ≡ key_present bytes.now }
 {
-    is_load(bytes) & flags_from(field1(bytes, FLAGS_AT)).key
+    is_load(bytes) && flags_from(byte_at(bytes, FLAGS_AT)).key
 }
 
 // Zeros where no key is present, or the frame is refused.
-#[tactic(auto, unfolding(crate::specs::Reading::key_beside))]
+#[tactic(auto, using(crate::proofs::Tests::keyed_long), unfolding(crate::specs::Reading::key_beside))]
 fn key_beside(bytes: &[u8]) -> [u8; KEY_BYTES]
     ensures { result ≡ key_beside bytes.now }
 {
     if key_present(bytes) {
-        return key_at(bytes);
+        bytes_at(bytes, KEY_AT)
+    } else {
+        [0; KEY_BYTES]
     }
-    [0; KEY_BYTES]
 }
 
 // 01, Frames: the reader tests kind, length, flag bits, length against flag bit 1 and mark, and nothing else.

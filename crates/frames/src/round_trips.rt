@@ -6,8 +6,9 @@ ghost use Rattle.frames.specs.RoundTrips.{with_key, key_back, copying};
 use crate::layouts::KEYED_BYTES;
 use crate::reader::read;
 use crate::writer::write;
-use crate::{Frame, ReadFrame, Seen, Written};
+use crate::{Frame, ReadFrame};
 use figures::limits::KEY_BYTES;
+use figures::replies::Refusal;
 
 // The longest frame fits the buffer, so the refusal is never reached.
 pub fn written_and_read(frame: Frame, key: [u8; KEY_BYTES]) -> ReadFrame
@@ -15,23 +16,18 @@ pub fn written_and_read(frame: Frame, key: [u8; KEY_BYTES]) -> ReadFrame
 {
     let mut buffer = [0; KEYED_BYTES];
     match write(frame, key, &mut buffer) {
-        Written::Count(count) => read(&buffer[..count]),
-        Written::Unwritten(refusal) => ReadFrame {
-            frame: Seen::Unread(refusal),
+        Ok(count) => read(&buffer[..count]),
+        Err(refusal) => ReadFrame {
+            frame: Err(refusal),
             key: [0; KEY_BYTES],
         },
     }
 }
 
 // A string that reads as a frame is written again as it stood.
-pub fn read_and_written(bytes: &[u8], buffer: &mut [u8]) -> Written
+pub fn read_and_written(bytes: &[u8], buffer: &mut [u8]) -> Result<usize, Refusal>
     ensures { outcome result buffer.new ≡ copying bytes.now buffer.old }
 {
     let seen = read(bytes);
-    let frame = seen.frame;
-    let key = seen.key;
-    match frame {
-        Seen::Whole(whole) => write(whole, key, buffer),
-        Seen::Unread(refusal) => Written::Unwritten(refusal),
-    }
+    write(seen.frame?, seen.key, buffer)
 }

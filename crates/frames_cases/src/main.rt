@@ -7,7 +7,7 @@ mod show;
 use figures::loads::{Flags, Load, Message};
 use figures::names::{Interval, KeyDomain, KeyId, RightName, Timestamp, Tokens};
 use frames::Frame;
-use run::{back_case, copy_case, read_case, write_cases};
+use run::{Sample, back_case, write_cases};
 use std::io;
 use std::io::{BufWriter, Write};
 
@@ -28,69 +28,64 @@ const NAME: RightName = RightName {
 
 // A kind that is none, at each length of the table.
 fn no_kind<W: Write>(out: &mut W, kind: u8) -> io::Result<()> {
-    read_case(out, kind, 0, kind, 1)?;
-    read_case(out, kind, 12, 1, 13)?;
-    read_case(out, kind, 0, kind, 17)?;
-    read_case(out, kind, 17, 0, 26)?;
-    read_case(out, kind, 17, 2, 42)
+    Sample::new(kind, 0, kind).read(out, 1)?;
+    Sample::new(kind, 12, 1).read(out, 13)?;
+    Sample::new(kind, 0, kind).read(out, 17)?;
+    Sample::new(kind, 17, 0).read(out, 26)?;
+    Sample::new(kind, 17, 2).read(out, 42)
 }
 
 // A load of one byte, and one short of, just at and one past each length.
 fn load_lengths<W: Write>(out: &mut W, flags: u8) -> io::Result<()> {
-    read_case(out, 1, 17, flags, 1)?;
-    read_case(out, 1, 17, flags, 25)?;
-    read_case(out, 1, 17, flags, 26)?;
-    read_case(out, 1, 17, flags, 27)?;
-    read_case(out, 1, 17, flags, 41)?;
-    read_case(out, 1, 17, flags, 42)?;
-    read_case(out, 1, 17, flags, 43)
-}
-
-fn load_flags<W: Write>(out: &mut W, flags: u8) -> io::Result<()> {
-    read_case(out, 1, 17, flags, 26)?;
-    read_case(out, 1, 17, flags, 42)
+    let load = Sample::new(1, 17, flags);
+    for size in [1, 25, 26, 27, 41, 42, 43] {
+        load.read(out, size)?;
+    }
+    Ok(())
 }
 
 fn each_flag<W: Write>(out: &mut W) -> io::Result<()> {
-    load_flags(out, 0x00)?;
-    load_flags(out, 0x01)?;
-    load_flags(out, 0x02)?;
-    load_flags(out, 0x04)?;
-    load_flags(out, 0x08)?;
-    load_flags(out, 0x10)?;
-    load_flags(out, 0x20)?;
-    load_flags(out, 0x40)?;
-    load_flags(out, 0x80)?;
-    load_flags(out, 0x03)
+    for flags in [0x00, 0x01, 0x02, 0x04, 0x08, 0x10, 0x20, 0x40, 0x80, 0x03] {
+        let load = Sample::new(1, 17, flags);
+        load.read(out, 26)?;
+        load.read(out, 42)?;
+    }
+    Ok(())
 }
 
-fn messages<W: Write>(out: &mut W) -> io::Result<()> {
-    read_case(out, 2, 12, 1, 1)?;
-    read_case(out, 2, 12, 1, 12)?;
-    read_case(out, 2, 12, 1, 13)?;
-    read_case(out, 2, 12, 1, 14)?;
-    read_case(out, 2, 12, 0x00, 13)?;
-    read_case(out, 2, 12, 0x01, 13)?;
-    read_case(out, 2, 12, 0x02, 13)?;
-    read_case(out, 2, 12, 0xFF, 13)
+fn message_lengths<W: Write>(out: &mut W) -> io::Result<()> {
+    let good = Sample::new(2, 12, 1);
+    for size in [1, 12, 13, 14] {
+        good.read(out, size)?;
+    }
+    Ok(())
+}
+
+fn each_mark<W: Write>(out: &mut W) -> io::Result<()> {
+    for mark in [0x00, 0x01, 0x02, 0xFF] {
+        Sample::new(2, 12, mark).read(out, 13)?;
+    }
+    Ok(())
 }
 
 fn rights<W: Write>(out: &mut W, kind: u8) -> io::Result<()> {
-    read_case(out, kind, 0, kind, 1)?;
-    read_case(out, kind, 0, kind, 16)?;
-    read_case(out, kind, 0, kind, 17)?;
-    read_case(out, kind, 0, kind, 18)
+    let right = Sample::new(kind, 0, kind);
+    for size in [1, 16, 17, 18] {
+        right.read(out, size)?;
+    }
+    Ok(())
 }
 
 fn reader_cases<W: Write>(out: &mut W) -> io::Result<()> {
-    read_case(out, 0, 0, 0, 0)?;
+    Sample::new(0, 0, 0).read(out, 0)?;
     no_kind(out, 0x00)?;
     no_kind(out, 0x05)?;
     no_kind(out, 0xFF)?;
     load_lengths(out, 0)?;
     load_lengths(out, 2)?;
     each_flag(out)?;
-    messages(out)?;
+    message_lengths(out)?;
+    each_mark(out)?;
     rights(out, 3)?;
     rights(out, 4)
 }
@@ -98,7 +93,7 @@ fn reader_cases<W: Write>(out: &mut W) -> io::Result<()> {
 fn load(add: bool, key: bool) -> Frame {
     Frame::Load(Load {
         name: NAME,
-        flags: Flags { add: add, key: key },
+        flags: Flags { add, key },
         amount: 0x51525354,
         cost: Tokens(0x61626364),
     })
@@ -108,39 +103,45 @@ fn message(good: bool) -> Frame {
     Frame::Message(Message {
         id: ID,
         ts: Timestamp(0xD1D2D3D4),
-        good: good,
+        good,
     })
 }
 
+// Frames of every kind, each with one byte less than it has.
+fn each_frame() -> [(Frame, u8); 8] {
+    [
+        (load(false, false), 25),
+        (load(true, false), 25),
+        (load(false, true), 41),
+        (load(true, true), 41),
+        (message(true), 12),
+        (message(false), 12),
+        (Frame::Report(NAME), 16),
+        (Frame::Delete(NAME), 16),
+    ]
+}
+
 fn writer_cases<W: Write>(out: &mut W) -> io::Result<()> {
-    write_cases(out, load(false, false), 25)?;
-    write_cases(out, load(true, false), 25)?;
-    write_cases(out, load(false, true), 41)?;
-    write_cases(out, load(true, true), 41)?;
-    write_cases(out, message(true), 12)?;
-    write_cases(out, message(false), 12)?;
-    write_cases(out, Frame::Report(NAME), 16)?;
-    write_cases(out, Frame::Delete(NAME), 16)
+    for (frame, short) in each_frame() {
+        write_cases(out, frame, short)?;
+    }
+    Ok(())
 }
 
 fn back_cases<W: Write>(out: &mut W) -> io::Result<()> {
-    back_case(out, load(false, false))?;
-    back_case(out, load(true, false))?;
-    back_case(out, load(false, true))?;
-    back_case(out, load(true, true))?;
-    back_case(out, message(true))?;
-    back_case(out, message(false))?;
-    back_case(out, Frame::Report(NAME))?;
-    back_case(out, Frame::Delete(NAME))
+    for (frame, _) in each_frame() {
+        back_case(out, frame)?;
+    }
+    Ok(())
 }
 
 fn copy_cases<W: Write>(out: &mut W) -> io::Result<()> {
-    copy_case(out, 1, 17, 1, 26, 27)?;
-    copy_case(out, 1, 17, 3, 42, 42)?;
-    copy_case(out, 2, 12, 1, 13, 13)?;
-    copy_case(out, 3, 0, 3, 17, 18)?;
-    copy_case(out, 4, 0, 4, 17, 16)?;
-    copy_case(out, 1, 17, 4, 26, 26)
+    Sample::new(1, 17, 1).copy(out, 26, 27)?;
+    Sample::new(1, 17, 3).copy(out, 42, 42)?;
+    Sample::new(2, 12, 1).copy(out, 13, 13)?;
+    Sample::new(3, 0, 3).copy(out, 17, 18)?;
+    Sample::new(4, 0, 4).copy(out, 17, 16)?;
+    Sample::new(1, 17, 4).copy(out, 26, 26)
 }
 
 fn main(rt: HostRuntime) -> io::Result<()> {

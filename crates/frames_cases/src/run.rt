@@ -1,5 +1,5 @@
 // Runs one case through the reader, the writer or both, and prints a line.
-use crate::show;
+use crate::show::{Hex, Shown};
 use frames::Frame;
 use frames::reader::read;
 use frames::round_trips::{read_and_written, written_and_read};
@@ -22,101 +22,73 @@ const BYTES: [u8; ROOM] = [
     0x29, 0x2A, 0x2B, 0x2C, 0x2D, 0x2E, 0x2F, 0x30, 0x31, 0x32, 0x33, 0x34,
 ];
 
-// These bytes with the kind, and with one byte of the case's own.
-fn sample(kind: u8, at: usize, value: u8) -> [u8; ROOM] {
-    let mut bytes = BYTES;
-    bytes[0] = kind;
-    if at < ROOM {
-        bytes[at] = value;
+// The bytes that a case reads the first of.
+#[derive(Clone, Copy)]
+pub(crate) struct Sample([u8; ROOM]);
+
+impl Sample {
+    // The bytes above with the kind, and with one byte of the case's own.
+    pub(crate) fn new(kind: u8, at: usize, value: u8) -> Sample {
+        let mut bytes = BYTES;
+        bytes[0] = kind;
+        if let Some(byte) = bytes.get_mut(at) {
+            *byte = value;
+        }
+        Sample(bytes)
     }
-    bytes
-}
 
-fn read_line<W: Write>(out: &mut W, bytes: &[u8]) -> io::Result<()> {
-    show::text(out, b"read ")?;
-    show::string(out, bytes)?;
-    show::text(out, b": ")?;
-    show::read(out, read(bytes))?;
-    show::text(out, b"\n")
-}
-
-// Reads the first n bytes of a sample.
-pub fn read_case<W: Write>(
-    out: &mut W,
-    kind: u8,
-    at: usize,
-    value: u8,
-    n: usize,
-) -> io::Result<()> {
-    let bytes = sample(kind, at, value);
-    if n <= ROOM {
-        read_line(out, &bytes[..n])?;
+    // Reads so many of them.
+    pub(crate) fn read<W: Write>(&self, out: &mut W, size: usize) -> io::Result<()> {
+        if let Some(bytes) = self.0.get(..size) {
+            writeln!(out, "read {}: {}", Hex(bytes), Shown(read(bytes)))?;
+        }
+        Ok(())
     }
-    Ok(())
+
+    // Reads so many of them, and writes what was read into some bytes EE.
+    pub(crate) fn copy<W: Write>(&self, out: &mut W, size: usize, room: usize) -> io::Result<()> {
+        let mut buffer = [0xEE; ROOM];
+        if let (Some(bytes), Some(buffer)) = (self.0.get(..size), buffer.get_mut(..room)) {
+            let answer = read_and_written(bytes, buffer);
+            writeln!(
+                out,
+                "copy {} into {room}: {}, buffer {}",
+                Hex(bytes),
+                Shown(answer),
+                Hex(buffer)
+            )?;
+        }
+        Ok(())
+    }
 }
 
-fn write_line<W: Write>(out: &mut W, frame: Frame, buffer: &mut [u8]) -> io::Result<()> {
-    show::text(out, b"write ")?;
-    show::frame(out, frame)?;
-    show::text(out, b" into ")?;
-    show::decimal(out, buffer.len())?;
-    show::text(out, b": ")?;
-    let answer = write(frame, GIVEN, buffer);
-    show::written(out, answer, buffer)
-}
-
-// Writes into n bytes EE.
-pub fn write_case<W: Write>(out: &mut W, frame: Frame, n: usize) -> io::Result<()> {
+// Writes into so many bytes EE.
+fn write_case<W: Write>(out: &mut W, frame: Frame, room: usize) -> io::Result<()> {
     let mut buffer = [0xEE; ROOM];
-    if n <= ROOM {
-        write_line(out, frame, &mut buffer[..n])?;
+    if let Some(buffer) = buffer.get_mut(..room) {
+        let answer = write(frame, GIVEN, buffer);
+        writeln!(
+            out,
+            "write {} into {room}: {}, buffer {}",
+            Shown(frame),
+            Shown(answer),
+            Hex(buffer)
+        )?;
     }
     Ok(())
 }
 
 // Into no byte, one too few, just enough and one more.
-pub fn write_cases<W: Write>(out: &mut W, frame: Frame, short: u8) -> io::Result<()> {
-    let n = short as usize;
-    write_case(out, frame, 0)?;
-    write_case(out, frame, n)?;
-    write_case(out, frame, n + 1)?;
-    write_case(out, frame, n + 2)
-}
-
-fn copy_line<W: Write>(out: &mut W, bytes: &[u8], buffer: &mut [u8]) -> io::Result<()> {
-    show::text(out, b"copy ")?;
-    show::string(out, bytes)?;
-    show::text(out, b" into ")?;
-    show::decimal(out, buffer.len())?;
-    show::text(out, b": ")?;
-    let answer = read_and_written(bytes, buffer);
-    show::written(out, answer, buffer)
-}
-
-// Reads the first n bytes of a sample and writes what was read into m bytes EE.
-pub fn copy_case<W: Write>(
-    out: &mut W,
-    kind: u8,
-    at: usize,
-    value: u8,
-    n: usize,
-    m: usize,
-) -> io::Result<()> {
-    let bytes = sample(kind, at, value);
-    let mut buffer = [0xEE; ROOM];
-    if n <= ROOM {
-        if m <= ROOM {
-            copy_line(out, &bytes[..n], &mut buffer[..m])?;
-        }
+pub(crate) fn write_cases<W: Write>(out: &mut W, frame: Frame, short: u8) -> io::Result<()> {
+    let short = usize::from(short);
+    for room in [0, short, short + 1, short + 2] {
+        write_case(out, frame, room)?;
     }
     Ok(())
 }
 
 // Writes and reads back.
-pub fn back_case<W: Write>(out: &mut W, frame: Frame) -> io::Result<()> {
-    show::text(out, b"back ")?;
-    show::frame(out, frame)?;
-    show::text(out, b": ")?;
-    show::read(out, written_and_read(frame, GIVEN))?;
-    show::text(out, b"\n")
+pub(crate) fn back_case<W: Write>(out: &mut W, frame: Frame) -> io::Result<()> {
+    let answer = written_and_read(frame, GIVEN);
+    writeln!(out, "back {}: {}", Shown(frame), Shown(answer))
 }

@@ -1,20 +1,20 @@
 -- A turn of `feed`'s loop, on plain values. Assumes nothing.
 use mathlib.Core.Path.{◌≡◌, refl, sym, ap, ap₂, ◌∙◌}
-use mathlib.Core.Bool.{Bool, true, false}
 use mathlib.Core.List.{List, [], ◌∷◌, ◌++◌, append_assoc, append-nil}
-use Prim.Native.Nat.{ℕ, suc, ◌+◌, ◌-◌, ◌≤◌, ◌<◌, min}
-use native.Mathlib.Nat.{zero-add, add-zero, sub-zero, le_of_lt, min-eq_left, min-eq_right}
+use Prim.Native.Nat.{ℕ, suc, ◌+◌, ◌-◌, ◌≤◌, ◌<◌}
+use native.Mathlib.Nat.{add-zero, sub-zero}
 use native.Mathlib.Omega.{arith}
-use borrow.Author.Tests.{lt-ltb, le-ltb, ltb-true, ltb-false, ne_eqb}
+use borrow.Author.Tests.{lt-ltb, le-ltb, ne_eqb}
 use lib.Dec.{ltb}
-use lib.ListN.{length, take, drop, get_or, length-append, drop_of_length-le}
-use lib.Seq.{sets, drop-cons, take_all}
+use lib.ListN.{length, set, drop, get_or, length-append, drop_of_length-le}
+use lib.Seq.{paste, drop-cons, take_at, take_all}
+use Rattle.places.proofs.Lists.{if_map}
 use Rattle.rules.specs.Pages.{Pages}
-use Rattle.lines.specs.Types.{Reply}
+use Rattle.lines.specs.Rows.{Filled, pushed}
 use Rattle.lines.specs.Hex.{line_feed, printed, reply_line}
 use Rattle.lines.specs.Feeding.{Between, kept, answered, ended, longer, Run, still, onward, run, laid}
-use Rattle.frames.proofs.Stores.{sets_front}
-use Rattle.lines.proofs.Stores.{sets-append}
+use Rattle.std.proofs.lemmas.Slice.{drop-append-drop}
+use Rattle.lines.proofs.Printing.{printed_long}
 
 -- ## The next character
 
@@ -40,16 +40,13 @@ module _ (l : List ℕ) (s : Between) (room i : ℕ) where
     unfolding run
     run_char e = rw (opened, ne_eqb (get_or l i 0) line_feed e, le-ltb room 0 (omega arith))
 
--- as many characters as are kept
-pub take-kept : (s : Between) (n : ℕ) → length s.line ≡ kept → n ≡ min s.count kept → take n s.line ≡ take s.count s.line
-take-kept s n k e = by_count (ltb s.count kept) refl
-  where
-    by_count : (t : Bool) → ltb s.count kept ≡ t → take n s.line ≡ take s.count s.line
-    by_count true f = ap (λ (m : ℕ). take m s.line) (e ∙ min-eq_left (le_of_lt (ltb-true s.count kept f)))
-    by_count false f =
-        let h : kept ≤ s.count = ltb-false s.count kept f in
-        let m : n ≡ kept = e ∙ min-eq_right h in
-        take_all n s.line (omega arith) ∙ sym (take_all s.count s.line (omega arith))
+-- a book, and a row with the line so far
+abbrev pub held : Pages → Filled → Between
+held b f = record { book = b; line = f.bytes; count = f.count }
+
+-- a character more in the row is one more in the state
+pub held_longer : (b : Pages) (n : ℕ) (f : Filled) (c : ℕ) → n ≡ kept → held b (pushed n f c) ≡ longer (held b f) c
+held_longer b n f c h = rw h (sym (if_map (held b) (ltb f.count kept) (record { bytes = set f.bytes f.count c; count = f.count + 1 }) f))
 
 -- ## The loop
 
@@ -65,69 +62,73 @@ shift-onward i t p r =
 pub record Going (l o₀ : List ℕ) (s₀ : Between) (o : List ℕ) (s : Between) (used made : ℕ) : Type 0 where
   pub text : List ℕ
   pub many : length text ≡ made
-  pub is : o ≡ sets o₀ 0 text
+  pub room : made ≤ length o₀
+  pub is : o ≡ text ++ drop made o₀
   pub rest : run l s₀ (length o₀) ≡ shift used text (run (drop used l) s (length o₀ - made))
 
-pub going_start : (l o : List ℕ) (s : Between) → Going l o s o s 0 0
-going_start l o s =
-    let r = run l s (length o) in
-    record {
-      text = [];
-      many = refl;
-      is = refl;
-      rest = rw (sub-zero (length o)) (ap (λ (u : ℕ). record { state = r.state; used = u; text = r.text }) (sym (zero-add r.used)));
-    }
-
-module _ (l o₀ : List ℕ) (s₀ : Between) (o : List ℕ) (s : Between) (used made : ℕ) (g : Going l o₀ s₀ o s used made) where
-  further : (p : List ℕ) (o' : List ℕ) (s' : Between) (n : ℕ) → length p ≡ n → o' ≡ sets o made p
-      → run (drop used l) s (length o₀ - made) ≡ onward p (run (drop (used + 1) l) s' (length o₀ - made - n))
-      → Going l o₀ s₀ o' s' (used + 1) (made + n)
-  further p o' s' n e w q =
-      let m : length o₀ - made - n ≡ length o₀ - (made + n) = omega arith in
-      record {
-        text = g.text ++ p;
-        many = length-append g.text p ∙ ap₂ ◌+◌ g.many e;
-        is = w ∙ ap (λ (x : List ℕ). sets x made p) g.is ∙ (rw (zero-add, g.many) at (sets-append g.text p o₀ 0));
-        rest =
-            g.rest
-            ∙ ap (shift used g.text) q
-            ∙ shift-onward used g.text p _
-            ∙ ap (λ (x : ℕ). shift (used + 1) (g.text ++ p) (run (drop (used + 1) l) s' x)) m;
-      }
+module _ {l o₀ : List ℕ} {s₀ : Between} {o : List ℕ} {s : Between} {used made : ℕ} (g : Going l o₀ s₀ o s used made) where
+  -- what the buffer is after a line more
+  laid_on : (p : List ℕ) → paste o made p (length p) ≡ (g.text ++ p) ++ drop (made + length p) o₀
+  laid_on p =
+      rw (
+        g.is,
+        take_at g.text (drop made o₀) made g.many,
+        take_all (length p) p (omega arith),
+        drop-append-drop made o₀ g.text (made + length p) (omega arith) g.many,
+      ) refl
 
   -- a line feed, with room for the reply
-  pub going_line : used < length l → get_or l used 0 ≡ line_feed → reply_line ≤ length o₀ - made
-      → length (printed (answered s).reply) ≡ reply_line → (o' : List ℕ) → o' ≡ sets o made (printed (answered s).reply)
+  pub going_line : used < length l → get_or l used 0 ≡ line_feed → reply_line ≤ length o₀ - made → (o' : List ℕ)
+      → o' ≡ paste o made (printed (answered s).reply) (length (printed (answered s).reply))
       → Going l o₀ s₀ o' (ended s) (used + 1) (made + reply_line)
-  going_line h e r n o' w = further (printed (answered s).reply) o' (ended s) reply_line n w (run_line l s (length o₀ - made) used h e r)
-
-  -- the same, as the code has it
-  pub going_answer : used < length l → get_or l used 0 ≡ line_feed → reply_line ≤ length o₀ - made → (b : Pages) (n : ℕ) (r : Reply) (t : List ℕ)
-      → b ≡ (answered s).book → n ≡ 0 → r ≡ (answered s).reply → t ≡ printed r → length t ≡ reply_line → (o' : List ℕ) → o' ≡ sets o made t
-      → Going l o₀ s₀ o' (record { book = b; line = s.line; count = n }) (used + 1) (made + reply_line)
-  going_answer h e room b n r t eb en er et m o' w =
-      let f : t ≡ printed (answered s).reply = et ∙ ap printed er in
-      rw (eb, en) (going_line h e room (ap length (sym f) ∙ m) o' (w ∙ ap (sets o made) f))
+  going_line h e r o' w =
+      let p = printed (answered s).reply in
+      let n : length p ≡ reply_line = printed_long (answered s).reply in
+      let m : length o₀ - made - reply_line ≡ length o₀ - (made + reply_line) = omega arith in
+      record {
+        text = g.text ++ p;
+        many = length-append g.text p ∙ ap₂ ◌+◌ g.many n;
+        room = omega arith;
+        is = w ∙ laid_on p ∙ ap (λ (x : ℕ). (g.text ++ p) ++ drop (made + x) o₀) n;
+        rest =
+            g.rest
+            ∙ ap (shift used g.text) (run_line l s (length o₀ - made) used h e r)
+            ∙ shift-onward used g.text p _
+            ∙ ap (λ (x : ℕ). shift (used + 1) (g.text ++ p) (run (drop (used + 1) l) (ended s) x)) m;
+      }
 
   -- any other character
   pub going_char : used < length l → (get_or l used 0 ≡ line_feed → ⊥) → Going l o₀ s₀ o (longer s (get_or l used 0)) (used + 1) made
-  going_char h e = rw add-zero at (further [] o (longer s (get_or l used 0)) 0 refl refl (run_char l s (length o₀ - made) used h e))
+  going_char h e =
+      let s' = longer s (get_or l used 0) in
+      record {
+        text = g.text;
+        many = g.many;
+        room = g.room;
+        is = g.is;
+        rest =
+            g.rest
+            ∙ ap (shift used g.text) (run_char l s (length o₀ - made) used h e)
+            ∙ shift-onward used g.text [] _
+            ∙ rw (append-nil, sub-zero) refl;
+      }
 
-  stopped : run (drop used l) s (length o₀ - made) ≡ still s → made ≤ length o₀
+  stopped : run (drop used l) s (length o₀ - made) ≡ still s
       → record { state = s; used = used; made = made; buffer = o } ≡ laid (run l s₀ (length o₀)) o₀
-  stopped q m =
+  stopped q =
       let e : run l s₀ (length o₀) ≡ record { state = s; used = used; text = g.text } =
       g.rest
       ∙ ap (shift used g.text) q
       ∙ ap₂ (λ (u : ℕ) (x : List ℕ). record { state = s; used = u; text = x }) (add-zero used) (append-nil g.text) in
-      ap₂ (λ (n : ℕ) (x : List ℕ). record { state = s; used = used; made = n; buffer = x })
-      (sym g.many)
-      (g.is ∙ sets_front g.text o₀ (omega (arith, g.many)))
+      ap (λ (x : List ℕ). record { state = s; used = used; made = made; buffer = x }) g.is
+      ∙ ap (λ (n : ℕ). record { state = s; used = used; made = n; buffer = g.text ++ drop n o₀ }) (sym g.many)
       ∙ sym (ap (λ (x : Run). laid x o₀) e)
 
-  pub going_end : length l ≤ used → made ≤ length o₀ → record { state = s; used = used; made = made; buffer = o } ≡ laid (run l s₀ (length o₀)) o₀
-  going_end h m = stopped (run_end l s (length o₀ - made) used h) m
+  pub going_end : used ≡ length l → record { state = s; used = length l; made = made; buffer = o } ≡ laid (run l s₀ (length o₀)) o₀
+  going_end h =
+      ap (λ (u : ℕ). record { state = s; used = u; made = made; buffer = o }) (sym h)
+      ∙ stopped (run_end l s (length o₀ - made) used (omega arith))
 
-  pub going_full : used < length l → get_or l used 0 ≡ line_feed → length o₀ - made < reply_line → made ≤ length o₀
+  pub going_full : used < length l → get_or l used 0 ≡ line_feed → length o₀ - made < reply_line
       → record { state = s; used = used; made = made; buffer = o } ≡ laid (run l s₀ (length o₀)) o₀
-  going_full h e r m = stopped (run-full l s (length o₀ - made) used h e r) m
+  going_full h e r = stopped (run-full l s (length o₀ - made) used h e r)

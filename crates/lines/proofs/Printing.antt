@@ -1,6 +1,5 @@
 -- What a reply's line is: its length, its digits, and that they read back. Assumes nothing.
 use mathlib.Core.Path.{◌≡◌, refl, ap, ap₂, ◌∙◌}
-use mathlib.Core.Logic.{⊎_elim}
 use mathlib.Core.Bool.{true}
 use mathlib.Core.List.{List, [], ◌∷◌}
 use Prim.Native.Nat.{ℕ, ◌+◌, ◌-◌, ◌*◌, ◌/◌, ◌%◌, ◌≤◌, ◌<◌}
@@ -8,7 +7,7 @@ use native.Mathlib.Omega.{arith}
 use borrow.Author.Tests.{lt-ltb, le-leb, lt-leb, ltb-true, ltb-false}
 use lib.Dec.{ltb}
 use lib.ListN.{length, length-append}
-use Rattle.places.proofs.Lists.{by_test}
+use Rattle.std.proofs.lemmas.Bool.{cond_both}
 use Rattle.figures.specs.Limits.{reply_widths}
 use Rattle.frames.specs.Numbers.{total}
 use Rattle.rules.specs.Replies.{reply_fields, reply_bytes}
@@ -44,16 +43,13 @@ high_value c h g = simp (le-leb 48 c (omega arith), lt-leb c 57 (omega arith), l
 
 digit_glyph : (d : ℕ) → d < 16 → digit_value (glyph d) ≡ d
 digit_glyph d h =
-    ⊎_elim
-    (λ e.
-    let k : d < 10 = ltb-true d 10 e in
-    let v : digit_value (d + 48) ≡ d + 48 - 48 = low_value (d + 48) (omega arith) (omega arith) in
-    rw e (omega arith))
-    (λ e.
-    let k : 10 ≤ d = ltb-false d 10 e in
-    let v : digit_value (d - 10 + 65) ≡ d - 10 + 65 - 65 + 10 = high_value (d - 10 + 65) (omega arith) (omega arith) in
-    rw e (omega arith))
-    (by_test (ltb d 10))
+    cond_both (ltb d 10) (d + 48) (d - 10 + 65) (λ (c : ℕ). digit_value c ≡ d)
+    (λ e. let k : d < 10 = ltb-true d 10 e in low_value (d + 48) (omega arith) (omega arith) ∙ omega arith)
+    (λ e. let k : 10 ≤ d = ltb-false d 10 e in high_value (d - 10 + 65) (omega arith) (omega arith) ∙ omega arith)
+
+-- the digits of a byte have the values that it was cut into
+digits_back : (b : ℕ) → b < 256 → (digit_value (glyph (b / 16)) ≡ b / 16) × (digit_value (glyph (b % 16)) ≡ b % 16)
+digits_back b h = (digit_glyph (b / 16) (omega arith), digit_glyph (b % 16) (omega arith))
 
 -- each a byte
 abbrev pub Bytewise : List ℕ → Type 0
@@ -64,9 +60,7 @@ Bytewise (b ∷ bs) = (b < 256) × Bytewise bs
 pub read_back : (bs : List ℕ) → Bytewise bs → pairs (hexadecimal bs) ≡ bs
 read_back [] h = refl
 read_back (b ∷ bs) h =
-    let k : b < 256 = h.0 in
-    let x : digit_value (glyph (b / 16)) ≡ b / 16 = digit_glyph (b / 16) (omega arith) in
-    let y : digit_value (glyph (b % 16)) ≡ b % 16 = digit_glyph (b % 16) (omega arith) in
+    let d = digits_back b h.0 in
     ap₂ (λ (n : ℕ) (l : List ℕ). n ∷ l) (omega arith) (read_back bs h.1)
 
 -- and are upper-case hexadecimal digits
@@ -74,6 +68,5 @@ pub all_glyphs : (bs : List ℕ) → Bytewise bs → all_digits (hexadecimal bs)
 all_glyphs [] h = refl
 all_glyphs (b ∷ bs) h =
     let k : b < 256 = h.0 in
-    let x : digit_value (glyph (b / 16)) ≡ b / 16 = digit_glyph (b / 16) (omega arith) in
-    let y : digit_value (glyph (b % 16)) ≡ b % 16 = digit_glyph (b % 16) (omega arith) in
+    let d = digits_back b k in
     rw (lt-ltb (digit_value (glyph (b / 16))) 16 (omega arith), lt-ltb (digit_value (glyph (b % 16))) 16 (omega arith)) (all_glyphs bs h.1)

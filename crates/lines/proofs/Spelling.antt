@@ -1,55 +1,56 @@
 -- Laws of hexadecimal lines. Assumes nothing.
 use mathlib.Core.Path.{◌≡◌, refl, sym, ap, ◌∙◌}
-use mathlib.Core.Bool.{Bool, true, false, ◌||◌}
-use mathlib.Core.List.{List, [], ◌∷◌, ◌++◌}
+use mathlib.Core.Bool.{Bool, true, false, ◌&&◌}
+use mathlib.Core.List.{List, [], ◌∷◌, ◌++◌, append_assoc}
 use Prim.Native.Nat.{ℕ, zero, suc, ◌+◌, ◌*◌, ◌/◌, ◌%◌, ◌≤◌, ◌<◌}
 use native.Mathlib.Omega.{arith}
 use native.Mathlib.Numerals.{add-one}
 use borrow.Author.Tests.{lt-ltb, le-ltb, eq-eqb, ne_eqb}
-use lib.ListN.{length, take, drop, get_or, drop_of_length-le}
-use lib.Seq.{drop-cons, take-suc, length-take-le}
+use lib.Dec.{eqb}
+use lib.ListN.{length, take, drop, get_or, length-append, drop_of_length-le}
+use lib.Seq.{drop-cons, take-suc, take_all, length-take-le}
+use Rattle.std.proofs.Math.Bool.{or-true}
+use Rattle.std.specs.Prelude.{None, Some, if◌then◌else◌}
 use Rattle.figures.specs.Limits.{line_digits}
-use Rattle.lines.specs.Hex.{digit_value, all_digits, pairs, damaged, decoding, damaged_line, spelt, glyph, hexadecimal}
+use Rattle.lines.specs.Rows.{Filled, filled, pushed}
+use Rattle.lines.specs.Hex.{line_feed, digit_value, is_digit, byte_of, all_digits, pairs, damaged, spelt, decoding, glyph, hexadecimal}
+use Rattle.lines.proofs.Stores.{one_more, full}
 
 -- ## Damaged lines
 
-or_true : (b : Bool) → (b || true) ≡ true
-or_true true = refl
-or_true false = refl
-
 module _ (l : List ℕ) where
-  pub damaged-empty : length l ≡ 0 → damaged l ≡ true
+  pub damaged-empty : eqb (length l) 0 ≡ true → damaged l ≡ true
   unfolding damaged
-  damaged-empty h = simp (eq-eqb (length l) 0 h)
+  damaged-empty h = simp h
 
   pub damaged_odd : length l % 2 ≡ 1 → damaged l ≡ true
   unfolding damaged
-  damaged_odd h = simp (eq-eqb (length l % 2) 1 h, or_true)
+  damaged_odd h = simp (eq-eqb (length l % 2) 1 h, or-true)
 
   pub damaged_long : line_digits < length l → damaged l ≡ true
   unfolding damaged
-  damaged_long h = simp (lt-ltb line_digits (length l) h, or_true)
+  damaged_long h = simp (lt-ltb line_digits (length l) h, or-true)
 
   pub damaged-other : all_digits l ≡ false → damaged l ≡ true
   unfolding damaged
-  damaged-other h = simp (h, or_true)
+  damaged-other h = simp (h, or-true)
 
-  pub sound : (length l ≡ 0 → ⊥) → (length l % 2 ≡ 1 → ⊥) → length l ≤ line_digits → all_digits l ≡ true → damaged l ≡ false
+  pub sound : eqb (length l) 0 ≡ false → (length l % 2 ≡ 1 → ⊥) → length l ≤ line_digits → all_digits l ≡ true → damaged l ≡ false
   unfolding damaged
-  sound a b c d = simp (ne_eqb (length l) 0 a, ne_eqb (length l % 2) 1 b, le-ltb line_digits (length l) c, d)
+  sound a b c d = simp (a, ne_eqb (length l % 2) 1 b, le-ltb line_digits (length l) c, d)
 
-  pub decoding-damaged : damaged l ≡ true → decoding l ≡ damaged_line
+  pub spells_none : damaged l ≡ true → None ≡ decoding l
   unfolding decoding
-  decoding-damaged h = simp h
+  spells_none h = simp h
 
-  pub decoding_sound : damaged l ≡ false → decoding l ≡ spelt (pairs l)
+  pub spells_some : damaged l ≡ false → Some (spelt (pairs l)) ≡ decoding l
   unfolding decoding
-  decoding_sound h = simp h
+  spells_some h = simp h
 
 -- ## Two characters further on
 
 all_two : (l : List ℕ) (i : ℕ) → i + 1 < length l
-    → all_digits (drop i l) ≡ all_digits (get_or l i 0 ∷ get_or l (i + 1) 0 ∷ drop (i + 2) l)
+    → all_digits (drop i l) ≡ (is_digit (get_or l i 0) && (is_digit (get_or l (i + 1) 0) && all_digits (drop (i + 2) l)))
 all_two l i h =
     let g : i < length l = omega arith in
     let m : suc i < length l = omega arith in
@@ -72,34 +73,36 @@ pairs-at (a ∷ b ∷ l) (suc j) h =
     let f : 2 * suc j + 1 ≡ suc (suc (2 * j + 1)) = omega arith in
     rw (f, e) (pairs-at l j (omega arith))
 
--- what the loop finds at the next two characters
+not_both : (s t rest : Bool) (n : ℕ) → (if s && t then Some n else None) ≡ None → (s && (t && rest)) ≡ false
+not_both true true rest n h = cc
+not_both true false rest n h = refl
+not_both false t rest n h = refl
+
+both : (s t rest : Bool) (n v : ℕ) → (if s && t then Some n else None) ≡ Some v → ((s && (t && rest)) ≡ rest) × (v ≡ n)
+both true true rest n v h = (refl, cc)
+both true false rest n v h = cc
+both false t rest n v h = cc
+
+-- what the loop finds at the next two characters, and one byte more
 module _ (l : List ℕ) (j : ℕ) (h : 2 * j + 1 < length l) (e : all_digits (drop (2 * j) l) ≡ all_digits l) where
-  pub bad_first : 16 ≤ digit_value (get_or l (2 * j) 0) → all_digits l ≡ false
-  bad_first g = sym e ∙ all_two l (2 * j) h ∙ simp (le-ltb (digit_value (get_or l (2 * j) 0)) 16 g)
+  pub bad_pair : byte_of (get_or l (2 * j) 0) (get_or l (2 * j + 1) 0) ≡ None → all_digits l ≡ false
+  bad_pair g =
+      sym e
+      ∙ all_two l (2 * j) h
+      ∙ not_both (is_digit (get_or l (2 * j) 0)) (is_digit (get_or l (2 * j + 1) 0)) (all_digits (drop (2 * j + 2) l)) _ g
 
-  pub bad_second : digit_value (get_or l (2 * j) 0) < 16 → 16 ≤ digit_value (get_or l (2 * j + 1) 0) → all_digits l ≡ false
-  bad_second f g =
-      sym e ∙ all_two l (2 * j) h ∙ simp (lt-ltb (digit_value (get_or l (2 * j) 0)) 16 f, le-ltb (digit_value (get_or l (2 * j + 1) 0)) 16 g)
-
-  pub good_two : digit_value (get_or l (2 * j) 0) < 16 → digit_value (get_or l (2 * j + 1) 0) < 16
-      → all_digits (drop (2 * (j + 1)) l) ≡ all_digits l
-  good_two f g =
+  pub good_pair : (v : ℕ) → byte_of (get_or l (2 * j) 0) (get_or l (2 * j + 1) 0) ≡ Some v
+      → (all_digits (drop (2 * (j + 1)) l) ≡ all_digits l) × (take (j + 1) (pairs l) ≡ take j (pairs l) ++ (v ∷ []))
+  good_pair v g =
       let n : 2 * (j + 1) ≡ 2 * j + 2 = omega arith in
-      rw n
-      (sym
-      (all_two l (2 * j) h
-      ∙ simp (lt-ltb (digit_value (get_or l (2 * j) 0)) 16 f, lt-ltb (digit_value (get_or l (2 * j + 1) 0)) 16 g))
-      ∙ e)
-
--- one byte more
-module _ (l : List ℕ) (j : ℕ) (h : 2 * j + 1 < length l) where
-  pub one_more : take (j + 1) (pairs l) ≡ take j (pairs l) ++ ((digit_value (get_or l (2 * j) 0) * 16 + digit_value (get_or l (2 * j + 1) 0)) ∷ [])
-  one_more =
       let m : length (pairs l) ≡ length l / 2 = length_pairs l in
-      rw (add-one, take-suc (pairs l) j 0 (omega arith), pairs-at l j h)
+      let b = both (is_digit (get_or l (2 * j) 0)) (is_digit (get_or l (2 * j + 1) 0)) (all_digits (drop (2 * j + 2) l)) _ v g in (
+        rw n (sym (all_two l (2 * j) h ∙ b.0) ∙ e),
+        rw (add-one, take-suc (pairs l) j 0 (omega arith), pairs-at l j h, b.1),
+      )
 
-  pub so_many : length (take j (pairs l)) ≡ j
-  so_many = let m : length (pairs l) ≡ length l / 2 = length_pairs l in length-take-le j (pairs l) (omega arith)
+pub so_many : (l : List ℕ) (j : ℕ) → 2 * j ≤ length l → length (take j (pairs l)) ≡ j
+so_many l j h = let m : length (pairs l) ≡ length l / 2 = length_pairs l in length-take-le j (pairs l) (omega arith)
 
 pub all_done : (l : List ℕ) (j : ℕ) → length l ≤ 2 * j → all_digits (drop (2 * j) l) ≡ all_digits l → all_digits l ≡ true
 all_done l j h e = sym e ∙ ap all_digits (drop_of_length-le l h)
@@ -114,9 +117,30 @@ pub length-hex : (a : List ℕ) → length (hexadecimal a) ≡ 2 * length a
 length-hex [] = refl
 length-hex (x ∷ a) = let e : length (hexadecimal a) ≡ 2 * length a = length-hex a in omega arith
 
--- one byte more of a reply
-pub hex_more : (r : List ℕ) (i : ℕ) → i < length r → hexadecimal (take (i + 1) r) ≡ hexadecimal (take i r) ++ hexadecimal (get_or r i 0 ∷ [])
-hex_more r i h = rw (add-one, take-suc r i 0 h) (hex-append (take i r) (get_or r i 0 ∷ []))
+module _ (l r : List ℕ) (i : ℕ) (k : length l ≡ 2 * length r + 1) where
+  hex_many : i ≤ length r → length (hexadecimal (take i r)) ≡ 2 * i
+  hex_many h = length-hex (take i r) ∙ ap (λ (n : ℕ). 2 * n) (length-take-le i r h)
 
-pub hex_many : (r : List ℕ) (i : ℕ) → i ≤ length r → length (hexadecimal (take i r)) ≡ 2 * i
-hex_many r i h = length-hex (take i r) ∙ ap (λ (n : ℕ). 2 * n) (length-take-le i r h)
+  -- one byte more of a reply, in a row that holds l
+  pub hex_more : i < length r
+      → pushed (length l) (pushed (length l) (filled l (hexadecimal (take i r))) (glyph (get_or r i 0 / 16))) (glyph (get_or r i 0 % 16))
+      ≡ filled l (hexadecimal (take (i + 1) r))
+  hex_more h =
+      let t = hexadecimal (take i r) in
+      let x = glyph (get_or r i 0 / 16) in
+      let y = glyph (get_or r i 0 % 16) in
+      let m : length t ≡ 2 * i = hex_many (omega arith) in
+      let n : length (t ++ (x ∷ [])) ≡ length t + 1 = length-append t (x ∷ []) in
+      let e : (t ++ (x ∷ [])) ++ (y ∷ []) ≡ hexadecimal (take (i + 1) r) =
+      append_assoc t (x ∷ []) (y ∷ []) ∙ rw (add-one, take-suc r i 0 h) (sym (hex-append (take i r) (get_or r i 0 ∷ []))) in
+      ap (λ (f : Filled). pushed (length l) f y) (one_more l t x (omega arith)) ∙ one_more l (t ++ (x ∷ [])) y (omega arith) ∙ ap (filled l) e
+
+  -- and the line feed
+  pub hex_done : length r ≡ i → (pushed (length l) (filled l (hexadecimal (take i r))) line_feed).bytes ≡ hexadecimal r ++ (line_feed ∷ [])
+  hex_done h =
+      let t = hexadecimal (take i r) in
+      let m : length t ≡ 2 * i = hex_many (omega arith) in
+      let n : length (t ++ (line_feed ∷ [])) ≡ length t + 1 = length-append t (line_feed ∷ []) in
+      ap (λ (f : Filled). f.bytes) (one_more l t line_feed (omega arith))
+      ∙ full l (t ++ (line_feed ∷ [])) (omega arith)
+      ∙ ap (λ (x : List ℕ). hexadecimal x ++ (line_feed ∷ [])) (take_all i r (omega arith))

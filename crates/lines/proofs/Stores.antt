@@ -1,12 +1,20 @@
--- A law of runs of stores. Assumes nothing.
-use mathlib.Core.Path.{◌≡◌}
-use mathlib.Core.List.{List, [], ◌∷◌, ◌++◌}
-use Prim.Native.Nat.{ℕ, suc, ◌+◌}
-use native.Mathlib.Nat.{add-zero, add-suc, suc-add}
-use lib.ListN.{length, set}
-use lib.Seq.{sets}
+-- Laws of a row that fills from the front. Assumes nothing.
+use mathlib.Core.Path.{◌≡◌, sym, ap, ◌∙◌}
+use mathlib.Core.List.{List, [], ◌∷◌, ◌++◌, append_assoc, append-nil}
+use Prim.Native.Nat.{ℕ, suc, ◌≤◌, ◌<◌}
+use native.Mathlib.Numerals.{add-one}
+use borrow.Author.Tests.{lt-ltb}
+use lib.ListN.{length, drop, length-append, drop_of_length-le}
+use lib.Seq.{drop-cons, set-append_seam}
+use Rattle.lines.specs.Rows.{filled, pushed}
 
--- a run of stores after a run of stores
-pub sets-append : (vs ws l : List ℕ) (i : ℕ) → sets (sets l i vs) (i + length vs) ws ≡ sets l i (vs ++ ws)
-sets-append [] ws l i = rw add-zero
-sets-append (v ∷ vs) ws l i = rw (add-suc, ← suc-add) (sets-append vs ws (set l i v) (suc i))
+-- one byte more, where there is room
+pub one_more : (l bs : List ℕ) (b : ℕ) → length bs < length l → pushed (length l) (filled l bs) b ≡ filled l (bs ++ (b ∷ []))
+one_more l bs b h =
+    rw (lt-ltb (length bs) (length l) h, length-append bs (b ∷ []), add-one, drop-cons l (length bs) 0 h)
+    (ap (λ (t : List ℕ). record { bytes = t; count = suc (length bs) })
+    (set-append_seam bs _ (drop (suc (length bs)) l) b ∙ sym (append_assoc bs (b ∷ []) (drop (suc (length bs)) l))))
+
+-- nothing is left of what a full row held
+pub full : (l bs : List ℕ) → length l ≤ length bs → (filled l bs).bytes ≡ bs
+full l bs h = rw (drop_of_length-le l h) (append-nil bs)

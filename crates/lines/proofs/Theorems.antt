@@ -1,24 +1,25 @@
 -- What the line program comes to. Each statement follows from the laws that it cites. Assumes nothing.
 use mathlib.Core.Path.{◌≡◌, refl, sym, ap, ◌∙◌}
-use mathlib.Core.Bool.{Bool, true, false, ◌&&◌}
+use mathlib.Core.Bool.{Bool, true, false}
 use mathlib.Core.List.{List, [], ◌∷◌, ◌++◌, append_assoc, append-nil}
-use Prim.Native.Nat.{ℕ, suc, ◌-◌, ◌*◌, ◌≤◌, ◌<◌}
+use Prim.Native.Nat.{ℕ, suc, ◌*◌, ◌≤◌, ◌<◌}
 use native.Mathlib.Omega.{arith}
 use borrow.Author.Tests.{le-leb, lt-leb, le-ltb, ne_eqb}
-use lib.Dec.{eqb, ltb}
+use lib.Dec.{eqb}
 use lib.ListN.{length, length-append}
+use Rattle.std.proofs.Math.Bool.{and-false}
 use Rattle.std.specs.Prelude.{if◌then◌else◌}
 use Rattle.rules.specs.Pages.{Pages, empty_book}
 use Rattle.rules.specs.Calls.{unchanged}
 use Rattle.lines.specs.Types.{Refused, Unreadable}
 use Rattle.lines.specs.Hex.{line_feed, digit_value, is_digit, all_digits, damaged, printed, reply_line}
 use Rattle.lines.specs.Answers.{lent, answer}
-use Rattle.lines.specs.Feeding.{Between, started, wants, next, prints, run, still, onward, feeding}
+use Rattle.lines.specs.Feeding.{Between, started, wants, run, feeding}
 use Rattle.lines.specs.Texts.{lines_from, lines_of, replies, book_after, printed_all, output, Session, OneLine, AllOneLine, joined}
 use Rattle.lines.proofs.Spelling.{damaged-other}
 use Rattle.lines.proofs.Answering.{answer-damaged}
 use Rattle.lines.proofs.Printing.{printed_long}
-use Rattle.lines.proofs.Whole.{session_spoken, session_for, spoken_lines, holds_start}
+use Rattle.lines.proofs.Whole.{wants_little, session_spoken, session_for, spoken_lines, holds_start}
 
 -- ## The whole output
 
@@ -39,15 +40,7 @@ cuts_alike text out out' h h' = session text out h ∙ sym (session text out' h'
 pub gets_on : (s : Between) (l o : List ℕ) → 0 < length l → reply_line ≤ length o → 0 < (feeding s l o).used
 unfolding run feeding
 gets_on s [] o h r = absurd (omega arith)
-gets_on s (c ∷ l) o h r = by_room (wants c) (wanted (eqb c line_feed))
-  where
-    wanted : (t : Bool) → (if t then reply_line else 0) ≤ reply_line
-    wanted true = omega arith
-    wanted false = omega arith
-
-    by_room : (n : ℕ) → n ≤ reply_line
-        → 0 < (if ltb (length o) n then still s else onward (prints s c) (run l (next s c) (length o - n))).used
-    by_room n k = rw (le-ltb (length o) n (omega arith)) (omega arith)
+gets_on s (c ∷ l) o h r = let k : wants c ≤ reply_line = wants_little c in rw (le-ltb (length o) (wants c) (omega arith)) (omega arith)
 
 -- ## Lines and replies
 
@@ -114,11 +107,7 @@ damaged_line_lem b l h = answer-damaged b l h
 
 not_digits : (l m : List ℕ) (c : ℕ) → is_digit c ≡ false → all_digits (l ++ (c ∷ m)) ≡ false
 not_digits [] m c h = rw h
-not_digits (a ∷ l) m c h = rw (not_digits l m c h) (and_false (is_digit a))
-  where
-    and_false : (t : Bool) → (t && false) ≡ false
-    and_false true = refl
-    and_false false = refl
+not_digits (a ∷ l) m c h = rw (not_digits l m c h) (and-false (is_digit a))
 
 -- another character anywhere damages a line
 pub other_character : (l m : List ℕ) (c : ℕ) → is_digit c ≡ false → damaged (l ++ (c ∷ m)) ≡ true

@@ -7,6 +7,8 @@ use Rattle.book.proofs.Tight.{pages_once}
 use Rattle.lines.specs.Types.{Book, State, Fed}
 use Rattle.lines.specs.Feeding.{Between, seen, Left, left}
 use Rattle.lines.proofs.hex.decode.Reads as decode
+use Rattle.lines.proofs.rows.Row.as_slice.Reads as Row-as-slice
+use Rattle.lines.proofs.rows.Row.whole.Reads as Row-whole
 use Rattle.lines.proofs.hex.reply_line.Reads as reply-line
 use Rattle.lines.proofs.start.Reads as start
 use Rattle.lines.proofs.feed.Reads as feed
@@ -16,7 +18,7 @@ use Rattle.lines.proofs.finish.Reads as finish
 
 seen_once : (s t : State) → seen s ≡ seen t → s ≡ t
 seen_once s t e =
-    ap₂ (λ (b : Book) (x : Between). record { book = b; line = x.line; count = x.count })
+    ap₂ (λ (b : Book) (x : Between). record { book = b; line = record { bytes = x.line; count = x.count } })
     (pages_once s.book t.book (ap (λ (x : Between). x.book) e))
     e
 
@@ -32,6 +34,12 @@ left_once f g o p e = (
 
 pub decode_once : (κs : Lfts 1) → (a : _) (r r' : _) (s s' : _) → decode.Post κs a r s → decode.Post κs a r' s' → r ≡ r'
 decode_once κs a r r' s s' p q = p ∙ sym q
+
+pub Row-as_slice_once : (N z : _) (κs : Lfts 2) (a : _) (r r' : _) (s s' : _) → Row-as-slice.Post N z κs a r s → Row-as-slice.Post N z κs a r' s' → r.now ≡ r'.now
+Row-as_slice_once N z κs a r r' s s' p q = p ∙ sym q
+
+pub Row-whole_once : (N z : _) (κs : Lfts 2) (a : _) (r r' : _) (s s' : _) → Row-whole.Post N z κs a r s → Row-whole.Post N z κs a r' s' → r ≡ r'
+Row-whole_once N z κs a r r' s s' p q = p ∙ sym q
 
 pub reply_line_once : (κs : Lfts 0) → (a : _) (r r' : _) (s s' : _) → reply-line.Post κs a r s → reply-line.Post κs a r' s' → r ≡ r'
 reply_line_once κs a r r' s s' p q = p ∙ sym q

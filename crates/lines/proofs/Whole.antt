@@ -7,12 +7,12 @@ use Prim.Native.Nat.{ℕ, suc, ◌+◌, ◌-◌, ◌≤◌, ◌<◌, min}
 use native.Mathlib.Nat.{min-eq_left, min-eq_right}
 use native.Mathlib.Omega.{arith}
 use native.Mathlib.Numerals.{add-one}
-use borrow.Author.Tests.{lt-ltb, le-ltb, ltb-true, ltb-false, ne_eqb}
+use borrow.Author.Tests.{lt-ltb, le-ltb, ne_eqb}
 use lib.ListN.{length, take, drop, replicate, length-append, length-set}
 use lib.Seq.{take_all, take_at, take-suc-set, take-append-le, length-take-le}
 use lib.Dec.{ltb, eqb}
+use Rattle.std.proofs.lemmas.Bool.{cases_lt, cond_both}
 use Rattle.std.specs.Prelude.{if◌then◌else◌}
-use Rattle.places.proofs.Lists.{by_test}
 use Rattle.figures.specs.Limits.{line_digits}
 use Rattle.rules.specs.Pages.{Pages}
 use Rattle.rules.specs.Calls.{After}
@@ -34,17 +34,14 @@ spoken s (c ∷ cs) = prints s c ++ spoken (next s c) cs
 abbrev Leaves : List ℕ → List ℕ → Between → Run → Type 0
 Leaves l rest s r = spoken s (l ++ rest) ≡ r.text ++ spoken r.state (drop r.used l ++ rest)
 
-leaves_if : (l rest : List ℕ) (s : Between) (t : Bool) (x y : Run) → Leaves l rest s x → Leaves l rest s y → Leaves l rest s (if t then x else y)
-leaves_if l rest s true x y p q = p
-leaves_if l rest s false x y p q = q
-
 run-spoken : (l rest : List ℕ) (s : Between) (room : ℕ) → Leaves l rest s (run l s room)
 unfolding run
 run-spoken [] rest s room = refl
 run-spoken (c ∷ l) rest s room =
     let r = run l (next s c) (room - wants c) in
-    leaves_if (c ∷ l) rest s (ltb room (wants c)) (still s) (onward (prints s c) r) refl
-    (ap (λ (t : List ℕ). prints s c ++ t) (run-spoken l rest (next s c) (room - wants c))
+    cond_both (ltb room (wants c)) (still s) (onward (prints s c) r) (Leaves (c ∷ l) rest s) (λ _. refl)
+    (λ _.
+    ap (λ (t : List ℕ). prints s c ++ t) (run-spoken l rest (next s c) (room - wants c))
     ∙ sym (append_assoc (prints s c) r.text (spoken r.state (drop r.used l ++ rest))))
 
 -- the last call prints what is left
@@ -63,14 +60,14 @@ session_spoken {s} (fed l rest o more) =
     ap₂ (λ (x y : List ℕ). x ++ y) (take_at r.text _ (length r.text) refl) (session_spoken more)
     ∙ sym (run-spoken l rest s (length o))
 
+-- a character wants room for no more than a reply
+pub wants_little : (c : ℕ) → wants c ≤ reply_line
+wants_little c = cond_both (eqb c line_feed) reply_line 0 (λ (n : ℕ). n ≤ reply_line) (λ _. omega arith) (λ _. omega arith)
+
 -- one character, with room for a reply, is taken
 one : (s : Between) (c : ℕ) (o : List ℕ) → reply_line ≤ length o → run (c ∷ []) s (length o) ≡ onward (prints s c) (still (next s c))
 unfolding run
-one s c o h = rw (le-ltb (length o) (wants c) (wanted (eqb c line_feed)))
-  where
-    wanted : (t : Bool) → (if t then reply_line else 0) ≤ length o
-    wanted true = h
-    wanted false = omega arith
+one s c o h = let k : wants c ≤ reply_line = wants_little c in rw (le-ltb (length o) (wants c) (omega arith))
 
 -- every text has a session: one character a call
 pub session_for : (text : List ℕ) (s : Between) → Session s text (spoken s text)
@@ -96,14 +93,13 @@ pub holds_start : (b : Pages) (line : List ℕ) → length line ≡ kept → Hol
 holds_start b line k = record { book = refl; long = k; many = refl; same = refl }
 
 holds_more : (s : Between) (b : Pages) (l : List ℕ) (c : ℕ) → Holds s b l → Holds (longer s c) b (l ++ (c ∷ []))
-holds_more s b l c h = ⊎_elim few enough (by_test (ltb (length l) kept))
+holds_more s b l c h = ⊎_elim few enough (cases_lt (length l) kept)
   where
     n : length (l ++ (c ∷ [])) ≡ length l + 1
     n = length-append l (c ∷ [])
 
-    few : ltb (length l) kept ≡ true → Holds (longer s c) b (l ++ (c ∷ []))
-    few e =
-        let k : length l < kept = ltb-true (length l) kept e in
+    few : length l < kept → Holds (longer s c) b (l ++ (c ∷ []))
+    few k =
         let z : s.count ≡ length l = h.many ∙ min-eq_left (omega arith) in
         let j : s.count < kept = omega arith in
         let w : take kept l ≡ l = take_all kept l (omega arith) in
@@ -118,9 +114,8 @@ holds_more s b l c h = ⊎_elim few enough (by_test (ltb (length l) kept))
               ∙ sym (take_all kept (l ++ (c ∷ [])) (omega (arith, n)));
         })
 
-    enough : ltb (length l) kept ≡ false → Holds (longer s c) b (l ++ (c ∷ []))
-    enough e =
-        let k : kept ≤ length l = ltb-false (length l) kept e in
+    enough : kept ≤ length l → Holds (longer s c) b (l ++ (c ∷ []))
+    enough k =
         let z : s.count ≡ kept = h.many ∙ min-eq_right k in
         rw (le-ltb s.count kept (omega arith))
         (record {
@@ -132,18 +127,15 @@ holds_more s b l c h = ⊎_elim few enough (by_test (ltb (length l) kept))
 
 -- the characters kept tell the answer
 answer-kept : (b : Pages) (l : List ℕ) → answer b (take kept l) ≡ answer b l
-answer-kept b l = ⊎_elim too_long whole (by_test (ltb line_digits (length l)))
+answer-kept b l = ⊎_elim too_long whole (cases_lt line_digits (length l))
   where
-    too_long : ltb line_digits (length l) ≡ true → answer b (take kept l) ≡ answer b l
-    too_long e =
-        let h : line_digits < length l = ltb-true line_digits (length l) e in
+    too_long : line_digits < length l → answer b (take kept l) ≡ answer b l
+    too_long h =
         let k : length (take kept l) ≡ kept = length-take-le kept l (omega arith) in
         answer-damaged b (take kept l) (damaged_long (take kept l) (omega arith)) ∙ sym (answer-damaged b l (damaged_long l h))
 
-    whole : ltb line_digits (length l) ≡ false → answer b (take kept l) ≡ answer b l
-    whole e =
-        let h : length l ≤ line_digits = ltb-false line_digits (length l) e in
-        ap (answer b) (take_all kept l (omega arith))
+    whole : length l ≤ line_digits → answer b (take kept l) ≡ answer b l
+    whole h = ap (answer b) (take_all kept l (omega arith))
 
 holds_answer : (s : Between) (b : Pages) (l : List ℕ) → Holds s b l → answered s ≡ answer b l
 holds_answer s b l h = ap₂ (λ (x : Pages) (y : List ℕ). answer x y) h.book h.same ∙ answer-kept b l

@@ -7,6 +7,7 @@ use native.Mathlib.Omega.{arith}
 use lib.Dec.{ltb, eqb}
 use lib.ListN.{length, take, drop, length-append, length-take, length-drop}
 use lib.Seq.{length-take-le}
+use Rattle.std.proofs.lemmas.Bool.{cond_both}
 use Rattle.std.specs.Prelude.{if◌then◌else◌}
 use Rattle.lines.specs.Types.{Fed}
 use Rattle.lines.specs.Hex.{line_feed, reply_line}
@@ -42,16 +43,14 @@ finish_fills s o o' f e = by_count (eqb s.count 0) e
 
 -- ## The part of the input that is taken
 
-run_if : (t : Bool) (n : ℕ) (x y : Run) → x.used ≤ n → y.used ≤ n → (if t then x else y).used ≤ n
-run_if true n x y p q = p
-run_if false n x y p q = q
-
 run-taken : (l : List ℕ) (s : Between) (room : ℕ) → (run l s room).used ≤ length l
 unfolding run
 run-taken [] s room = omega arith
 run-taken (c ∷ l) s room =
     let h = run-taken l (next s c) (room - wants c) in
-    run_if (ltb room (wants c)) (suc (length l)) (still s) (onward (prints s c) (run l (next s c) (room - wants c))) (omega arith) (omega arith)
+    cond_both (ltb room (wants c)) (still s) (onward (prints s c) (run l (next s c) (room - wants c))) (λ (r : Run). r.used ≤ suc (length l))
+    (λ _. omega arith)
+    (λ _. omega arith)
 
 -- no more than there is from a place on, and something where there is room for a reply
 pub record Taken (input at out used : ℕ) : Type 0 where

@@ -17,7 +17,7 @@ pub record Between : Type 0 where
   pub count : ℕ
 
 abbrev pub seen : State → Between
-seen s = record { book = pages s.book; line = s.line; count = s.count }
+seen s = record { book = pages s.book; line = s.line.bytes; count = s.line.count }
 
 -- so many characters of a line tell that it is too long
 abbrev pub kept : ℕ

@@ -1,9 +1,10 @@
 -- A line of upper-case hexadecimal as bytes, and a reply as such a line: 01, The line program.
-use Rattle.std.specs.Prelude.{ℕ, ◌+◌, ◌-◌, ◌*◌, ◌/◌, ◌%◌, Bool, true, not, ◌&&◌, ◌||◌, List, [], ◌∷◌, ◌++◌, length, drop, replicate, ltb, leb, eqb, if◌then◌else◌}
+use Rattle.std.specs.Prelude.{ℕ, ◌+◌, ◌-◌, ◌*◌, ◌/◌, ◌%◌, Bool, true, not, ◌&&◌, ◌||◌, Option, None, Some, List, [], ◌∷◌, ◌++◌, length, replicate, ltb, leb, eqb, if◌then◌else◌}
 use Rattle.figures.specs.Limits.{line_digits, reply_widths}
 use Rattle.frames.specs.Numbers.{total}
 use Rattle.rules.specs.Replies.{reply_bytes}
-use Rattle.lines.specs.Types.{Bytes, Damaged, Decoded, Reply}
+use Rattle.lines.specs.Types.{Reply}
+use Rattle.lines.specs.Rows.{Filled, filled}
 
 abbrev pub line_feed : ℕ
 line_feed = 10
@@ -19,6 +20,14 @@ digit_value c =
 
 abbrev pub is_digit : ℕ → Bool
 is_digit c = ltb (digit_value c) 16
+
+-- the value of a digit, and none of another character
+abbrev pub digit_of : ℕ → Option ℕ
+digit_of c = if is_digit c then Some (digit_value c) else None
+
+-- the byte of two digits
+abbrev pub byte_of : ℕ → ℕ → Option ℕ
+byte_of a b = if is_digit a && is_digit b then Some (digit_value a * 16 + digit_value b) else None
 
 abbrev pub all_digits : List ℕ → Bool
 all_digits [] = true
@@ -38,14 +47,12 @@ damaged l = eqb (length l) 0 || eqb (length l % 2) 1 || ltb line_digits (length 
 abbrev pub blank : List ℕ
 blank = replicate (line_digits / 2) 0
 
-abbrev pub damaged_line : Decoded
-damaged_line = record { frame = Damaged; bytes = blank }
+-- bytes at the front, and zeros after them
+abbrev pub spelt : List ℕ → Filled
+spelt bs = filled blank bs
 
-abbrev pub spelt : List ℕ → Decoded
-spelt bs = record { frame = Bytes (length bs); bytes = bs ++ drop (length bs) blank }
-
-unfoldable pub decoding : List ℕ → Decoded
-decoding l = if damaged l then damaged_line else spelt (pairs l)
+unfoldable pub decoding : List ℕ → Option Filled
+decoding l = if damaged l then None else Some (spelt (pairs l))
 
 -- ## A reply as a line
 

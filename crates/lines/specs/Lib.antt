@@ -1,4 +1,5 @@
 pub mod Types
+pub mod Rows
 pub mod Hex
 pub mod Answers
 pub mod Feeding

@@ -1,7 +1,4 @@
 -- The types of this crate and those that it speaks of, and their cases, under one name.
-pub use Rattle.lines.specs.declared.hex.Frame.{Frame}
-pub use Rattle.lines.specs.declared.hex.Frame.TheVariants.{Bytes, Damaged}
-pub use Rattle.lines.specs.declared.hex.Decoded.{Decoded}
 pub use Rattle.lines.specs.declared.State.{State}
 pub use Rattle.lines.specs.declared.Fed.{Fed}
 pub use Rattle.book.specs.declared.Book.{Book}

@@ -2,30 +2,30 @@
 #![tactic(auto)]
 
 pub mod hex;
+pub mod rows;
 
-ghost use Rattle.std.specs.Prelude.{◌≡◌, ◌+◌, ◌≤◌, min, length, take};
-ghost use Rattle.std.proofs.lemmas.List.Edits.{sets};
+ghost use Rattle.std.specs.Prelude.{◌≡◌};
 ghost use Rattle.book.specs.Pages.{pages};
 ghost use Rattle.lines.specs.Answers.{answer, Gives};
-ghost use Rattle.lines.specs.Feeding.{seen, kept, left, started, feeding, finishing};
+ghost use Rattle.lines.specs.Feeding.{answered, ended, seen, left, started, feeding, finishing};
 
 use book::{Book, Called};
 use figures::limits::{KEY_BYTES, LINE_DIGITS};
 use figures::replies::{Refusal, Reply};
-use hex::{Frame, LINE_FEED, REPLY_LINE};
+use hex::{LINE_FEED, REPLY_LINE};
+use rows::Row;
 
 // One more than the longest line: a line with so many characters is damaged whatever follows.
 pub const KEPT: usize = LINE_DIGITS + 1;
 
-// Between two chunks: the book, and how many characters of the line have come, with the first of them. Its size is fixed.
+// Between two chunks: the book, and the line so far. Its size is fixed.
 #[derive(Clone, Copy)]
 pub struct State {
     book: Book,
-    line: [u8; KEPT],
-    count: usize,
+    line: Row<KEPT>,
 }
 
-// How many characters were taken, and how many printed.
+// How many characters were taken, and how many printed: these stand at the front of the lent buffer, as the promise of `feed` (`left`) has it.
 #[derive(Clone, Copy)]
 pub struct Fed {
     pub state: State,
@@ -37,35 +37,27 @@ pub struct Fed {
 fn reply_to(book: Book, line: &[u8]) -> Called
     ensures { Gives result (answer (pages book) line.now) }
 {
-    let decoded = hex::decode(line);
-    let bytes = decoded.bytes;
-    let frame = decoded.frame;
-    let Frame::Bytes(size) = frame else {
+    let Some(frame) = hex::decode(line) else {
         return Called {
             book,
             reply: Reply::Refused(Refusal::Unreadable),
         };
     };
     let mut key = [0u8; KEY_BYTES];
-    book.call(&bytes[..size], &mut key)
+    book.call(frame.as_slice(), &mut key)
 }
 
-// No more than are kept.
-fn kept(count: usize) -> usize
-    ensures { result ≡ min count kept }
-{
-    if count < KEPT { count } else { KEPT }
-}
-
-// Writes a reply's line.
-fn put_line(out: &mut [u8], at: usize, line: [u8; REPLY_LINE])
-    requires { at + length line ≤ length out.old }
-    ensures { out.new ≡ sets out.old at line }
-{
-    let mut i = 0;
-    while i < REPLY_LINE {
-        out[at + i] = line[i];
-        i += 1;
+impl State {
+    // Answers the line so far; the next line begins.
+    fn end_line(&mut self) -> Reply
+        ensures state { seen self.new ≡ ended (seen self.old) }
+        ensures reply { result ≡ (answered (seen self.old)).reply }
+    {
+        let called = reply_to(self.book, self.line.as_slice());
+        let book = called.book;
+        self.book = book;
+        self.line.clear();
+        called.reply
     }
 }
 
@@ -73,46 +65,29 @@ fn put_line(out: &mut [u8], at: usize, line: [u8; REPLY_LINE])
 pub fn start() -> State
     ensures { seen result ≡ started }
 {
-    State {
-        book: Book::empty(),
-        line: [0u8; KEPT],
-        count: 0,
-    }
+    let book = Book::empty();
+    let line = Row::new();
+    State { book, line }
 }
 
 // Takes characters until none is left or a reply has no room, and prints the replies at the front of `out`.
-pub fn feed(state: State, input: &[u8], out: &mut [u8]) -> Fed
+pub fn feed(mut state: State, input: &[u8], out: &mut [u8]) -> Fed
     ensures { left result out.new ≡ feeding (seen state) input.now out.old }
 {
-    let book = state.book;
-    let mut line = state.line;
-    let mut count = state.count;
-    let mut called = Called {
-        book,
-        reply: Reply::Refused(Refusal::Unreadable),
-    };
-    let mut used = 0;
     let mut made = 0;
-    while used < input.len() {
-        let c = input[used];
-        if c == LINE_FEED {
-            if out.len() - made < REPLY_LINE {
-                break;
-            }
-            let size = kept(count);
-            called = reply_to(called.book, &line[..size]);
-            let reply = called.reply;
-            put_line(out, made, hex::reply_line(reply));
-            count = 0;
-            made += REPLY_LINE;
-        } else if count < KEPT {
-            line[count] = c;
-            count += 1;
+    for (used, c) in input.iter().enumerate() {
+        if *c != LINE_FEED {
+            state.line.push(*c);
+            continue;
         }
-        used += 1;
+        if out.len() - made < REPLY_LINE {
+            return Fed { state, used, made };
+        }
+        let line = hex::reply_line(state.end_line());
+        out[made..made + REPLY_LINE].copy_from_slice(&line);
+        made += REPLY_LINE;
     }
-    let book = called.book;
-    let state = State { book, line, count };
+    let used = input.len();
     Fed { state, used, made }
 }
 
@@ -121,8 +96,7 @@ pub fn feed(state: State, input: &[u8], out: &mut [u8]) -> Fed
 pub fn finish(state: State, out: &mut [u8]) -> Fed
     ensures { left result out.new ≡ finishing (seen state) out.old }
 {
-    let count = state.count;
-    if count == 0 {
+    if state.line.is_empty() {
         return Fed {
             state,
             used: 0,

@@ -1,25 +1,23 @@
 // The cases of this folder's stdin, fed one character at a time with room for one reply.
 #![tactic(auto)]
 
-use lines::State;
 use lines::hex::REPLY_LINE;
+use lines::{Fed, State};
 use std::io;
 use std::io::{BufReader, BufWriter, Read, Write};
 
 // One character, and what it prints.
 fn step<W: Write>(out: &mut W, state: State, c: u8) -> io::Result<State> {
     let mut text = [0u8; REPLY_LINE];
-    let fed = lines::feed(state, &[c], &mut text);
-    let made = fed.made;
+    let Fed { state, made, .. } = lines::feed(state, &[c], &mut text);
     out.write_all(&text[..made])?;
-    Ok(fed.state)
+    Ok(state)
 }
 
 // The last line.
 fn end<W: Write>(out: &mut W, state: State) -> io::Result<()> {
     let mut text = [0u8; REPLY_LINE];
-    let fed = lines::finish(state, &mut text);
-    let made = fed.made;
+    let Fed { made, .. } = lines::finish(state, &mut text);
     out.write_all(&text[..made])
 }
 

@@ -2,3 +2,5 @@
 pub mod Walks
 pub mod Lists
 pub mod Tests
+pub mod Searches
+pub mod Tight

@@ -1,12 +1,12 @@
 -- The words that the rules are written in: places in a list of any length and any element.
 use Rattle.std.specs.Prelude.{ℕ, suc, ◌≡◌, Bool, true, false, List, [], ◌∷◌, get_or, set, if◌then◌else◌}
-use Rattle.places.specs.Types.{Found, At, Nowhere, Verdict, Passed, Failed}
+use Rattle.places.specs.Types.{Option, Some, None, Verdict, Passed, Failed}
 
 -- ## What a check's answer says of a refusal's test
 
-abbrev pub missing : Found → Bool
-missing (At i) = false
-missing Nowhere = true
+abbrev pub missing : Option ℕ → Bool
+missing (Some i) = false
+missing None = true
 
 abbrev pub failed : Verdict → Bool
 failed Passed = false
@@ -15,30 +15,30 @@ failed Failed = true
 -- ## Places
 
 -- the same place, seen from one place further left
-abbrev pub next : Found → Found
-next (At i) = At (suc i)
-next Nowhere = Nowhere
+abbrev pub next : Option ℕ → Option ℕ
+next (Some i) = Some (suc i)
+next None = None
 
 -- the first of two places that there is
-abbrev pub or_else : Found → Found → Found
-or_else (At i) g = At i
-or_else Nowhere g = g
+abbrev pub or_else : Option ℕ → Option ℕ → Option ℕ
+or_else (Some i) g = Some i
+or_else None g = g
 
 module _ {A : Type 0} where
   -- the lowest place whose content passes the test
-  unfoldable pub first : (A → Bool) → List A → Found
-  first p [] = Nowhere
-  first p (x ∷ xs) = if p x then At 0 else next (first p xs)
+  unfoldable pub first : (A → Bool) → List A → Option ℕ
+  first p [] = None
+  first p (x ∷ xs) = if p x then Some 0 else next (first p xs)
 
   -- what a place holds; d where there is none
-  unfoldable pub at : A → Found → List A → A
-  at d (At i) l = get_or l i d
-  at d Nowhere l = d
+  unfoldable pub at : A → Option ℕ → List A → A
+  at d (Some i) l = get_or l i d
+  at d None l = d
 
   -- x in that place
-  unfoldable pub put : Found → A → List A → List A
-  put (At i) x l = set l i x
-  put Nowhere x l = l
+  unfoldable pub put : Option ℕ → A → List A → List A
+  put (Some i) x l = set l i x
+  put None x l = l
 
   -- x in each place whose content passes the test
   unfoldable pub put_all : (A → Bool) → A → List A → List A

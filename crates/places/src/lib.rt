@@ -1,16 +1,25 @@
-// Places in a list, and what a check answers.
+// What a check answers. The words on places in a list, in specs/, have no code of their own: std's `Option` says whether there is one.
 #![tactic(auto)]
 
-// A place, or none.
-#[derive(Clone, Copy)]
-pub enum Found {
-    At(usize),
-    Nowhere,
-}
+ghost use Rattle.std.specs.Prelude.{◌≡◌};
+ghost use Rattle.places.specs.Words.{failed};
 
-// Whether a check passed.
+// Whether a check passed: 01, The shape of each place, wants an enum that let .. else takes apart, and a check has no value to give.
 #[derive(Clone, Copy)]
 pub enum Verdict {
     Passed,
     Failed,
+}
+
+impl Verdict {
+    // Fails where the refusal's test holds.
+    pub fn unless(refused: bool) -> Verdict
+        ensures { failed result ≡ refused }
+    {
+        if refused {
+            Verdict::Failed
+        } else {
+            Verdict::Passed
+        }
+    }
 }

@@ -10,15 +10,15 @@ use Rattle.places.proofs.Lists.{clash, Hit, first_hit, first-at, first-none, fir
 use Rattle.figures.specs.Keys.{free_key, is_key}
 use Rattle.figures.specs.Rights.{free_right, is_right}
 use Rattle.figures.proofs.Naming.{is_key-free, is_right-free}
-use Rattle.rules.specs.Types.{RightName, Found, At, Nowhere, KeyId}
+use Rattle.rules.specs.Types.{RightName, Option, Some, None, KeyId}
 use Rattle.rules.specs.Pages.{Pages, key_at, right_at, key_in, right_in, free_key_at, free_right_at}
 use Rattle.rules.specs.OneCall.{OnlyAt, Gone, Takes, its_own, lowest_free}
 
 module _ {A : Type 0} (d : A) (l : List A) where
-  pub only_put : (k : ℕ) (x : A) → OnlyAt d k l (put (At k) x l)
+  pub only_put : (k : ℕ) (x : A) → OnlyAt d k l (put (Some k) x l)
   only_put k x = record {
-    long = length-put (At k) x l;
-    others = λ j ne. put_elim (λ y. y ≡ get_or l j d) d (At k) x l j (λ e. absurd (ne (cc))) refl;
+    long = length-put (Some k) x l;
+    others = λ j ne. put_elim (λ y. y ≡ get_or l j d) d (Some k) x l j (λ e. absurd (ne (cc))) refl;
   }
 
   pub gone_put_all : (is : A → Bool) → Gone is d l (put_all is d l)
@@ -35,15 +35,15 @@ module _ {A : Type 0} (d : A) (l : List A) where
     others = λ j h. put_elim (λ y. y ≡ get_or l j d) d (first (is n) l) d l j (λ e. clash (first-at (is n) d free l e).1 h) refl;
   }
 
-  free_found : (held : A → Bool) (k : ℕ) → first (λ x. not (held x)) l ≡ At k → (k < length l) × (held (get_or l k d) ≡ false)
+  free_found : (held : A → Bool) (k : ℕ) → first (λ x. not (held x)) l ≡ Some k → (k < length l) × (held (get_or l k d) ≡ false)
   free_found held k e = let h = subst (Hit (λ x. not (held x)) d l) e (first_hit (λ x. not (held x)) d l) in (h.0, not-true _ h.1)
 
-  pub takes : (is held : A → Bool) → is d ≡ false → (k : ℕ) → or_else (first is l) (first (λ x. not (held x)) l) ≡ At k → Takes is held d l k
+  pub takes : (is held : A → Bool) → is d ≡ false → (k : ℕ) → or_else (first is l) (first (λ x. not (held x)) l) ≡ Some k → Takes is held d l k
   takes is held free k = go (first is l) refl
     where
-      go : (w : Found) → first is l ≡ w → or_else w (first (λ x. not (held x)) l) ≡ At k → Takes is held d l k
-      go (At j) e q = let h = first-at is d free l (e ∙ q) in its_own h.0 h.1
-      go Nowhere e q =
+      go : (w : Option ℕ) → first is l ≡ w → or_else w (first (λ x. not (held x)) l) ≡ Some k → Takes is held d l k
+      go (Some j) e q = let h = first-at is d free l (e ∙ q) in its_own h.0 h.1
+      go None e q =
           let h = free_found held k q in
           lowest_free h.0 (first-none is d free l e) h.1 (λ j g. not-false _ (first_lowest (λ x. not (held x)) d l q j g))
 
@@ -52,21 +52,21 @@ takes_in (its_own h e) = h
 takes_in (lowest_free h e f g) = h
 
 -- a key and a right that are found are in their places
-module _ (b : Pages) (i : KeyId) (k : ℕ) (e : key_at b i ≡ At k) where
-  pub key_found : (k < length b.keys) × (is_key i (key_in b (At k)) ≡ true)
+module _ (b : Pages) (i : KeyId) (k : ℕ) (e : key_at b i ≡ Some k) where
+  pub key_found : (k < length b.keys) × (is_key i (key_in b (Some k)) ≡ true)
   unfolding key_at key_in at
   key_found = first-at (λ x. is_key i x) free_key (is_key-free i) b.keys e
 
-module _ (b : Pages) (n : RightName) (p : ℕ) (e : right_at b n ≡ At p) where
-  pub right_found : (p < length b.rights) × (is_right n (right_in b (At p)) ≡ true)
+module _ (b : Pages) (n : RightName) (p : ℕ) (e : right_at b n ≡ Some p) where
+  pub right_found : (p < length b.rights) × (is_right n (right_in b (Some p)) ≡ true)
   unfolding right_at right_in at
   right_found = first-at (λ r. is_right n r) free_right (is_right-free n) b.rights e
 
 -- a free place that is found is free
-pub free_key_found : (b : Pages) (k : ℕ) → free_key_at b ≡ At k → (key_in b (At k)).held ≡ false
+pub free_key_found : (b : Pages) (k : ℕ) → free_key_at b ≡ Some k → (key_in b (Some k)).held ≡ false
 unfolding free_key_at key_in at
 free_key_found b k e = (free_found free_key b.keys (λ x. x.held) k e).1
 
-pub free_right_found : (b : Pages) (p : ℕ) → free_right_at b ≡ At p → (right_in b (At p)).held ≡ false
+pub free_right_found : (b : Pages) (p : ℕ) → free_right_at b ≡ Some p → (right_in b (Some p)).held ≡ false
 unfolding free_right_at right_in at
 free_right_found b p e = (free_found free_right b.rights (λ r. r.held) p e).1

@@ -20,7 +20,7 @@ use Rattle.figures.specs.Rights.{free_right, is_right, is_of, charged_right}
 use Rattle.figures.specs.Loads.{credit_in, account_by, purse_by, over_by, loaded_right}
 use Rattle.figures.proofs.Naming.{same_id_eq, same_name_eq, other, is_right-is_of, is_key-free, is_of-free, is_right-free}
 use Rattle.frames.proofs.Tests.{key_sixteen}
-use Rattle.rules.specs.Types.{Found, At, KeyId, RightName, Account, Counted, Purse, Credit, ToCounter, ToPurse, Tokens, Right, Key, Load, Message, Frame, Seen}
+use Rattle.rules.specs.Types.{Option, Some, KeyId, RightName, Account, Counted, Purse, Credit, ToCounter, ToPurse, Tokens, Right, Key, Load, Message, Frame, Seen}
 use Rattle.rules.specs.Pages.{Pages, Sizes, blank, key_at, right_at, key_in, right_in, free_key_at, free_right_at, key_room, right_room, purse_of}
 use Rattle.rules.specs.Calls.{After}
 use Rattle.rules.specs.Loads.{account_before, load_refusals, key_after, loaded}
@@ -86,20 +86,20 @@ record Rest (n : ℕ) (b : Pages) (i : KeyId) (rest : List Right) : Type 0 where
 
 module _ {z : Sizes} (b : Pages) (s : Sound z b) where
   -- a key stands where its ID is found, a right where its name is
-  pub key_at_is : (i : KeyId) (j : ℕ) → is_key i (get_or b.keys j free_key) ≡ true → key_at b i ≡ At j
+  pub key_at_is : (i : KeyId) (j : ℕ) → is_key i (get_or b.keys j free_key) ≡ true → key_at b i ≡ Some j
   unfolding key_at
   key_at_is i j h = unique_first (λ m k. is_key m k) free_key b.keys s.one_key i (is_key-free i) j h
 
-  pub right_at_is : (n : RightName) (j : ℕ) → is_right n (get_or b.rights j free_right) ≡ true → right_at b n ≡ At j
+  pub right_at_is : (n : RightName) (j : ℕ) → is_right n (get_or b.rights j free_right) ≡ true → right_at b n ≡ Some j
   unfolding right_at
   right_at_is n j h = unique_first (λ m r. is_right m r) free_right b.rights s.one_right n (is_right-free n) j h
 
   -- every key that a place holds has its bytes, and every right its account
-  pub sixteen : (w : Found) → Sixteen (key_in b w)
+  pub sixteen : (w : Option ℕ) → Sixteen (key_in b w)
   unfolding key_in at
   sixteen w = at_all free_key b.keys Sixteen free_sixteen s.key-bytes w
 
-  fair_in : (w : Found) → Fair (right_in b w)
+  fair_in : (w : Option ℕ) → Fair (right_in b w)
   unfolding right_in at
   fair_in w = at_all free_right b.rights Fair free_fair s.fair-rights w
 
@@ -124,11 +124,11 @@ module _ {z : Sizes} (b : Pages) (s : Sound z b) where
             (e ∙ sym (room_holds free_right b.rights (λ y. is_of i y ≡ false) (is_of-free i) _
             (λ y h. other y.held y.name.id l.name.id i e (is_right-is_of l.name y h)) _ (λ y. not_held y.held (same_id y.name.id i))))))
 
-    loaded_one_key : (i : KeyId) (j : ℕ) → is_key i (key_after b l key) ≡ true → is_key i (get_or b.keys j free_key) ≡ true → key_room b l.name.id ≡ At j
+    loaded_one_key : (i : KeyId) (j : ℕ) → is_key i (key_after b l key) ≡ true → is_key i (get_or b.keys j free_key) ≡ true → key_room b l.name.id ≡ Some j
     unfolding key_after loaded_key key_room
     loaded_one_key i j hx hj = let e : l.name.id ≡ i = same_id_eq hx in rw (e, key_at_is i j hj)
 
-    loaded_one_right : (a : Account) (m : RightName) (j : ℕ) → is_right m (loaded_right l a) ≡ true → is_right m (get_or b.rights j free_right) ≡ true → right_room b l.name ≡ At j
+    loaded_one_right : (a : Account) (m : RightName) (j : ℕ) → is_right m (loaded_right l a) ≡ true → is_right m (get_or b.rights j free_right) ≡ true → right_room b l.name ≡ Some j
     unfolding loaded_right right_room
     loaded_one_right a m j hx hj = let e : l.name ≡ m = same_name_eq hx in rw (e, right_at_is m j hj)
 
@@ -196,7 +196,7 @@ module _ {z : Sizes} (b : Pages) (s : Sound z b) where
       has_not (λ k. is_key m k) free_key (is_key-free m) _ (λ j.
       put_cases (λ y. is_key m y ≡ false) free_key (key_at b i) free_key b.keys j (is_key-free m) (λ e'. is_key-free m) (at_other j))
     where
-      at_other : (j : ℕ) → (key_at b i ≡ At j → ⊥) → is_key m (get_or b.keys j free_key) ≡ false
+      at_other : (j : ℕ) → (key_at b i ≡ Some j → ⊥) → is_key m (get_or b.keys j free_key) ≡ false
       at_other j f = elim (by_test (is_key m (get_or b.keys j free_key))) [ inl h ↦ absurd (f (rw (same_id_eq e) (key_at_is m j h))) | inr h ↦ h ]
 
   cleared_other : (i m : KeyId) → same_id i m ≡ false → first (λ k. is_key m k) (put (key_at b i) free_key b.keys) ≡ first (λ k. is_key m k) b.keys

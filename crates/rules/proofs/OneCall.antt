@@ -22,7 +22,7 @@ use Rattle.figures.proofs.Naming.{same_id_eq, is_key-free, is_right-free, is_of-
 use Rattle.figures.specs.Limits.{key_bytes}
 use Rattle.figures.specs.Replies.{refusal_code}
 use Rattle.frames.specs.Reading.{reading}
-use Rattle.rules.specs.Types.{Refusal, BufferLength, Unreadable, Policy, Fields, EmptyInterval, UnknownId, Full, Integrity, NoFit, NoFunds, NotHeld, Refused, OverHeld, OverNew, Reply, RightName, Found, At, Nowhere, Credit, ToCounter, ToPurse, Load, Timestamp, Tokens, KeyId, Account, Counted, Purse, Right, Key, Message, LoadFrame, MessageFrame, ReportFrame, DeleteFrame, Loaded, Deleted, Reported, Seen, Whole}
+use Rattle.rules.specs.Types.{Refusal, BufferLength, Unreadable, Policy, Fields, EmptyInterval, UnknownId, Full, Integrity, NoFit, NoFunds, NotHeld, Refused, OverHeld, OverNew, Reply, RightName, Option, Some, None, Credit, ToCounter, ToPurse, Load, Timestamp, Tokens, KeyId, Account, Counted, Purse, Right, Key, Message, LoadFrame, MessageFrame, ReportFrame, DeleteFrame, Loaded, Deleted, Reported, Seen, Ok}
 use Rattle.rules.specs.Pages.{Pages, Sizes, blank, key_at, right_at, key_in, right_in, free_key_at, free_right_at, key_room, right_room, purse_of, user_purse, as_held}
 use Rattle.rules.specs.Calls.{After, unless}
 use Rattle.rules.specs.Loads.{over_reply, account_before, load_refusals, key_after, loaded}
@@ -75,27 +75,27 @@ unfolding fits
 fits-live m replay r h = and_right (is_of m.id r && covers r.name.interval m.ts) _ h
 
 module _ {z : Sizes} (b : Pages) (sound : Sound z b) (m : Message) (pass : Passed (message_refusals b m))
-    (k p : ℕ) (ek : key_at b m.id ≡ At k) (ep : payer b m ≡ At p) where
-  key-after : key_in (granted b (At k) (At p) m.ts) (At k) ≡ granted_key m.ts (key_in b (At k))
+    (k p : ℕ) (ek : key_at b m.id ≡ Some k) (ep : payer b m ≡ Some p) where
+  key-after : key_in (granted b (Some k) (Some p) m.ts) (Some k) ≡ granted_key m.ts (key_in b (Some k))
   unfolding granted key_in
   key-after = put_same b.keys k _ free_key (key_found b m.id k ek).0
 
-  right-after : right_in (granted b (At k) (At p) m.ts) (At p) ≡ charged_right (right_in b (At p))
+  right-after : right_in (granted b (Some k) (Some p) m.ts) (Some p) ≡ charged_right (right_in b (Some p))
   unfolding granted right_in
   right-after = put_same b.rights p _ free_right (payer_in b m pass p ep)
 
-  it_fits : fits m (key_in b (At k)).replay (right_in b (At p)) ≡ true
+  it_fits : fits m (key_in b (Some k)).replay (right_in b (Some p)) ≡ true
   unfolding fitting replay_of
   it_fits = rw (← ek, ← ep) (payer-fits b m pass)
 
-  granted-pays : Pays (right_in b (At p)).account b.purse (right_in (granted b (At k) (At p) m.ts) (At p)).account (granted b (At k) (At p) m.ts).purse
+  granted-pays : Pays (right_in b (Some p)).account b.purse (right_in (granted b (Some k) (Some p) m.ts) (Some p)).account (granted b (Some k) (Some p) m.ts).purse
   granted-pays = rw right-after (unfold granted charged_right purse_of in pays _ _ (rw ep at (payer-can_pay b m pass)))
 
-  granted_replays : Replays (right_in b (At p)).name.spe m.ts (key_in b (At k)).replay (key_in (granted b (At k) (At p) m.ts) (At k)).replay
+  granted_replays : Replays (right_in b (Some p)).name.spe m.ts (key_in b (Some k)).replay (key_in (granted b (Some k) (Some p) m.ts) (Some k)).replay
   unfolding granted_key
   granted_replays = rw key-after (replays _ _ _ (fits-live m _ _ it_fits))
 
-  granted_alone : NothingElse k p b (granted b (At k) (At p) m.ts)
+  granted_alone : NothingElse k p b (granted b (Some k) (Some p) m.ts)
   granted_alone = record {
     keys = unfold granted in only_put free_key b.keys k _;
     key-held = rw key-after (unfold granted_key in and_left _ _ (key_found b m.id k ek).1);
@@ -106,7 +106,7 @@ module _ {z : Sizes} (b : Pages) (sound : Sound z b) (m : Message) (pass : Passe
     right_name = rw right-after (unfold charged_right in refl);
   }
 
-  granted_law : (s : List ℕ) → (reading s).frame ≡ Whole (MessageFrame m) → Grant b s (grant b (At k) (At p) m.ts)
+  granted_law : (s : List ℕ) → (reading s).frame ≡ Ok (MessageFrame m) → Grant b s (grant b (Some k) (Some p) m.ts)
   unfolding grant
   granted_law s read = record {
     message = m;
@@ -121,7 +121,7 @@ module _ {z : Sizes} (b : Pages) (sound : Sound z b) (m : Message) (pass : Passe
     replays = granted_replays;
     nothing_else = granted_alone;
     handed = refl;
-    sixteen = sixteen b sound (At k);
+    sixteen = sixteen b sound (Some k);
     reply = unfold as_held purse_of in refl;
   }
 
@@ -166,7 +166,7 @@ settles l was purse w (ToPurse t) e = go l.flags.add refl
     go false h = purse-set e.0 h e.1
 
 module _ (b : Pages) (l : Load) (key : List ℕ) (pass : Passed (load_refusals b l))
-    (k p : ℕ) (ek : key_room b l.name.id ≡ At k) (ep : right_room b l.name ≡ At p) where
+    (k p : ℕ) (ek : key_room b l.name.id ≡ Some k) (ep : right_room b l.name ≡ Some p) where
   key_takes : Takes (λ x. is_key l.name.id x) (λ x. x.held) free_key b.keys k
   unfolding key_room key_at free_key_at
   key_takes = takes free_key b.keys _ _ (is_key-free l.name.id) k ek
@@ -175,32 +175,32 @@ module _ (b : Pages) (l : Load) (key : List ℕ) (pass : Passed (load_refusals b
   unfolding right_room right_at free_right_at
   right_takes = takes free_right b.rights _ _ (is_right-free l.name) p ep
 
-  loaded-key : key_in (loaded b l key) (At k) ≡ key_after b l key
+  loaded-key : key_in (loaded b l key) (Some k) ≡ key_after b l key
   unfolding loaded key_in
   loaded-key = rw ek (put_same b.keys k _ free_key (takes_in key_takes))
 
-  loaded-right : right_in (loaded b l key) (At p) ≡ loaded_right l (account_by (credit_in l) l (account_before b l.name))
+  loaded-right : right_in (loaded b l key) (Some p) ≡ loaded_right l (account_by (credit_in l) l (account_before b l.name))
   unfolding loaded right_in
   loaded-right = rw ep (put_same b.rights p _ free_right (takes_in right_takes))
 
-  loads-key : LoadsKey l key (key_in b (At k)) (key_after b l key)
+  loads-key : LoadsKey l key (key_in b (Some k)) (key_after b l key)
   unfolding key_after key_room
   loads-key = go (key_at b l.name.id) refl ek (load_keyed b l pass)
     where
-      go : (w : Found) → key_at b l.name.id ≡ w → or_else w (free_key_at b) ≡ At k → (missing w && not l.flags.key) ≡ false
-          → LoadsKey l key (key_in b (At k)) (loaded_key l.name.id l.flags.key key (key_in b w))
-      go (At j) e q h = rw q (loads_own l key _ l.flags.key refl (key_found b l.name.id k (e ∙ q)).1)
-      go Nowhere e q h = unfold key_in at in loads_new l key (key_in b (At k)) l.flags.key refl h (free_key_found b k q)
+      go : (w : Option ℕ) → key_at b l.name.id ≡ w → or_else w (free_key_at b) ≡ Some k → (missing w && not l.flags.key) ≡ false
+          → LoadsKey l key (key_in b (Some k)) (loaded_key l.name.id l.flags.key key (key_in b w))
+      go (Some j) e q h = rw q (loads_own l key _ l.flags.key refl (key_found b l.name.id k (e ∙ q)).1)
+      go None e q h = unfold key_in at in loads_new l key (key_in b (Some k)) l.flags.key refl h (free_key_found b k q)
 
-  before : Before (right_in b (At p)) (account_before b l.name)
+  before : Before (right_in b (Some p)) (account_before b l.name)
   unfolding account_before right_room
   before = go (right_at b l.name) refl ep
     where
-      go : (w : Found) → right_at b l.name ≡ w → or_else w (free_right_at b) ≡ At p → Before (right_in b (At p)) (right_in b w).account
-      go (At j) e q = rw q (own (and_left _ _ (right_found b l.name p (e ∙ q)).1))
-      go Nowhere e q = unfold right_in at free_right in fresh (free_right_found b p q)
+      go : (w : Option ℕ) → right_at b l.name ≡ w → or_else w (free_right_at b) ≡ Some p → Before (right_in b (Some p)) (right_in b w).account
+      go (Some j) e q = rw q (own (and_left _ _ (right_found b l.name p (e ∙ q)).1))
+      go None e q = unfold right_in at free_right in fresh (free_right_found b p q)
 
-  loaded_law : (s u : List ℕ) → (reading s).frame ≡ Whole (LoadFrame l) → (reading s).key ≡ key
+  loaded_law : (s u : List ℕ) → (reading s).frame ≡ Ok (LoadFrame l) → (reading s).key ≡ key
       → Loading b s (record { book = loaded b l key; reply = Loaded (as_held (loaded b l key) (key_room b l.name.id) (right_room b l.name)); buffer = u })
   loaded_law s u read carried = record {
     load = l;
@@ -228,8 +228,8 @@ module _ {z : Sizes} (b : Pages) (sound : Sound z b) where
   unfolding left key_at
   key_gone i rest h = rw h (gone_put free_key b.keys (λ m x. is_key m x) sound.one_key i (is_key-free i))
 
-  erased_law : (l : Load) (s u : List ℕ) → (reading s).frame ≡ Whole (LoadFrame l) → is_deletion l.name.spe ≡ true → Passed (erase_refusals b l)
-      → (k : ℕ) → key_at b l.name.id ≡ At k → Erasure b s (record { book = erased b l.name.id; reply = Deleted (user_purse b); buffer = u })
+  erased_law : (l : Load) (s u : List ℕ) → (reading s).frame ≡ Ok (LoadFrame l) → is_deletion l.name.spe ≡ true → Passed (erase_refusals b l)
+      → (k : ℕ) → key_at b l.name.id ≡ Some k → Erasure b s (record { book = erased b l.name.id; reply = Deleted (user_purse b); buffer = u })
   unfolding erased
   erased_law l s u read o pass k ek = record {
     load = l;
@@ -246,7 +246,7 @@ module _ {z : Sizes} (b : Pages) (sound : Sound z b) where
     reply = unfold user_purse in refl;
   }
 
-  dropped_law : (n : RightName) (s u : List ℕ) → (reading s).frame ≡ Whole (DeleteFrame n) → (p : ℕ) → right_at b n ≡ At p
+  dropped_law : (n : RightName) (s u : List ℕ) → (reading s).frame ≡ Ok (DeleteFrame n) → (p : ℕ) → right_at b n ≡ Some p
       → Deletion b s (record { book = dropped b n; reply = Deleted (user_purse b); buffer = u })
   unfolding dropped
   dropped_law n s u read p ep = record {
@@ -262,11 +262,11 @@ module _ {z : Sizes} (b : Pages) (sound : Sound z b) where
   }
 
   -- a held right has its key
-  right_keyed : (n : RightName) (p : ℕ) → right_at b n ≡ At p → missing (key_at b n.id) ≡ false
+  right_keyed : (n : RightName) (p : ℕ) → right_at b n ≡ Some p → missing (key_at b n.id) ≡ false
   unfolding right_in at
-  right_keyed n p ep = sound.keyed n.id ∙ has (λ r. is_of n.id r) free_right (is_of-free n.id) b.rights p (is_right-is_of n (right_in b (At p)) (right_found b n p ep).1)
+  right_keyed n p ep = sound.keyed n.id ∙ has (λ r. is_of n.id r) free_right (is_of-free n.id) b.rights p (is_right-is_of n (right_in b (Some p)) (right_found b n p ep).1)
 
-  reported_law : (n : RightName) (s u : List ℕ) → (reading s).frame ≡ Whole (ReportFrame n) → (k p : ℕ) → key_at b n.id ≡ At k → right_at b n ≡ At p
+  reported_law : (n : RightName) (s u : List ℕ) → (reading s).frame ≡ Ok (ReportFrame n) → (k p : ℕ) → key_at b n.id ≡ Some k → right_at b n ≡ Some p
       → Report b s (record { book = b; reply = Reported (as_held b (key_at b n.id) (right_at b n)); buffer = u })
   reported_law n s u read k p ek ep = record {
     name = n;
@@ -306,10 +306,10 @@ over_law : {z : Sizes} (b : Pages) → Sound z b → (n : RightName) → Over b 
 unfolding over_reply
 over_law b sound n = if_elim (Over b n) (missing (right_at b n)) _ _ (λ e. new_right (absent _ e)) (λ e. held-right (present _ e))
   where
-    new_right : right_at b n ≡ Nowhere → Over b n (OverNew (user_purse b))
+    new_right : right_at b n ≡ None → Over b n (OverNew (user_purse b))
     new_right e = unfold user_purse right_at right_in at in right_new (first-none (λ r. is_right n r) free_right (is_right-free n) b.rights e)
 
-    held-right : (p : ℕ) × (right_at b n ≡ At p) → Over b n (OverHeld (as_held b (key_at b n.id) (right_at b n)))
+    held-right : (p : ℕ) × (right_at b n ≡ Some p) → Over b n (OverHeld (as_held b (key_at b n.id) (right_at b n)))
     held-right (p, ep) =
         let (k, ek) = present (key_at b n.id) (right_keyed b sound n p ep) in
         rw (ek, ep) (unfold as_held purse_of in right-held k p (key_found b n.id k ek).1 (right_found b n p ep).1)

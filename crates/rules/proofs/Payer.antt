@@ -11,7 +11,7 @@ use Rattle.places.proofs.Tests.{and_left, and_right}
 use Rattle.figures.specs.Accounts.{can_pay}
 use Rattle.figures.specs.Policies.{purse_limit_of}
 use Rattle.figures.specs.Rights.{free_right, fits}
-use Rattle.rules.specs.Types.{At, RightName, Right, Message}
+use Rattle.rules.specs.Types.{Some, RightName, Right, Message}
 use Rattle.rules.specs.Pages.{Pages, Sizes, right_in, purse_of}
 use Rattle.rules.specs.Messages.{fitting, paying, payer, message_refusals}
 use Rattle.rules.specs.Sound.{Sound}
@@ -44,12 +44,12 @@ module _ (b : Pages) (m : Message) (p : Passed (message_refusals b m)) where
   payer_here x = first_put_here b.rights _ free_right x payer_found
 
   -- its place is one of the book's, and no lower place could pay
-  module _ (k : ℕ) (e : payer b m ≡ At k) where
+  module _ (k : ℕ) (e : payer b m ≡ Some k) where
     pub payer_in : k < length b.rights
     unfolding payer
     payer_in = first_in (λ r. paying b m r) b.rights k e
 
-    pub payer_lowest : (j : ℕ) → j < k → paying b m (right_in b (At j)) ≡ false
+    pub payer_lowest : (j : ℕ) → j < k → paying b m (right_in b (Some j)) ≡ false
     unfolding payer right_in at
     payer_lowest = first_lowest (λ r. paying b m r) free_right b.rights e
 

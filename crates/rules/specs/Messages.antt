@@ -4,7 +4,7 @@ use Rattle.places.specs.Words.{first, put, missing}
 use Rattle.figures.specs.Accounts.{can_pay, spent}
 use Rattle.figures.specs.Rights.{fits, charged_right}
 use Rattle.figures.specs.Keys.{granted_key}
-use Rattle.rules.specs.Types.{Found, Timestamp, KeyId, Right, Message, Granted, Refused, Integrity, UnknownId, NoFit, NoFunds}
+use Rattle.rules.specs.Types.{Option, Timestamp, KeyId, Right, Message, Granted, Refused, Integrity, UnknownId, NoFit, NoFunds}
 use Rattle.rules.specs.Pages.{Pages, key_at, key_in, right_in, purse_of, as_held}
 use Rattle.rules.specs.Calls.{After, Check, ◌⇒◌∣◌, unless}
 
@@ -21,7 +21,7 @@ unfoldable pub paying : Pages → Message → Right → Bool
 paying b m r = fitting b m r && can_pay (purse_of b r.name) r.account
 
 -- who is charged: the fitting right in the lowest place that can pay
-unfoldable pub payer : Pages → Message → Found
+unfoldable pub payer : Pages → Message → Option ℕ
 payer b m = first (λ r. paying b m r) b.rights
 
 unfoldable pub message_refusals : Pages → Message → List Check
@@ -33,7 +33,7 @@ message_refusals b m =
     ∣ []
 
 -- the key in place k is handed out, and the right in place r is charged; nothing else alters
-unfoldable pub granted : Pages → Found → Found → Timestamp → Pages
+unfoldable pub granted : Pages → Option ℕ → Option ℕ → Timestamp → Pages
 granted b k r ts =
     record {
       keys = put k (granted_key ts (key_in b k)) b.keys;
@@ -42,7 +42,7 @@ granted b k r ts =
     }
 
 -- the key's sixteen bytes go to the lent key buffer
-unfoldable pub grant : Pages → Found → Found → Timestamp → After
+unfoldable pub grant : Pages → Option ℕ → Option ℕ → Timestamp → After
 grant b k r ts =
     let after = granted b k r ts in
     record { book = after; reply = Granted (as_held after k r); buffer = (key_in b k).bytes }

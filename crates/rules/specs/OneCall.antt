@@ -7,7 +7,7 @@ use Rattle.figures.specs.Accounts.{counter}
 use Rattle.figures.specs.Keys.{free_key, is_key}
 use Rattle.figures.specs.Rights.{free_right, is_right, is_of}
 use Rattle.frames.specs.Reading.{reading}
-use Rattle.rules.specs.Types.{At, Tokens, TrafficKeys, Timestamp, RightName, Account, Counted, Purse, Right, Key, Load, Message, Shown, Refusal, BufferLength, Reply, Loaded, Deleted, Granted, Reported, OverHeld, OverNew, Refused, LoadFrame, MessageFrame, ReportFrame, DeleteFrame, Whole, Unread}
+use Rattle.rules.specs.Types.{Some, Tokens, TrafficKeys, Timestamp, RightName, Account, Counted, Purse, Right, Key, Load, Message, Shown, Refusal, BufferLength, Reply, Loaded, Deleted, Granted, Reported, OverHeld, OverNew, Refused, LoadFrame, MessageFrame, ReportFrame, DeleteFrame, Ok, Err}
 use Rattle.rules.specs.Pages.{Pages, Sizes, blank, key_at, key_in, right_in}
 use Rattle.rules.specs.Calls.{After, unchanged}
 use Rattle.rules.specs.Messages.{paying}
@@ -35,15 +35,15 @@ pub data Takes {A : Type 0} (is held : A → Bool) (d : A) (l : List A) (k : ℕ
 
 -- 01, Replies: place of the right, its account, the purse, and the replay counter of the key
 abbrev pub shown : Pages → ℕ → ℕ → Shown
-shown b k p = record { place = p; account = (right_in b (At p)).account; purse = b.purse; replay = (key_in b (At k)).replay }
+shown b k p = record { place = p; account = (right_in b (Some p)).account; purse = b.purse; replay = (key_in b (Some k)).replay }
 
 -- ## 01, Rights: the empty book
 
 -- every place is free, key bytes zero, and the purse is 0
 pub record Empty (b : Pages) : Type 0 where
-  pub free_keys : (j : ℕ) → (key_in b (At j)).held ≡ false
-  pub zero_bytes : (j : ℕ) → (key_in b (At j)).bytes ≡ replicate key_bytes 0
-  pub free_rights : (j : ℕ) → (right_in b (At j)).held ≡ false
+  pub free_keys : (j : ℕ) → (key_in b (Some j)).held ≡ false
+  pub zero_bytes : (j : ℕ) → (key_in b (Some j)).bytes ≡ replicate key_bytes 0
+  pub free_rights : (j : ℕ) → (right_in b (Some j)).held ≡ false
   pub no_tokens : b.purse.0 ≡ 0
 
 abbrev pub EmptyBook : Type 0
@@ -71,30 +71,30 @@ pub data Pays : Account → Tokens → Account → Tokens → Type 0 where
 -- the key in place k and the right in place p may alter in their figures, and nothing else
 pub record NothingElse (k p : ℕ) (before after : Pages) : Type 0 where
   pub keys : OnlyAt free_key k before.keys after.keys
-  pub key-held : (key_in after (At k)).held ≡ true
-  pub key-id : (key_in after (At k)).id ≡ (key_in before (At k)).id
-  pub key-bytes : (key_in after (At k)).bytes ≡ (key_in before (At k)).bytes
+  pub key-held : (key_in after (Some k)).held ≡ true
+  pub key-id : (key_in after (Some k)).id ≡ (key_in before (Some k)).id
+  pub key-bytes : (key_in after (Some k)).bytes ≡ (key_in before (Some k)).bytes
   pub rights : OnlyAt free_right p before.rights after.rights
-  pub right-held : (right_in after (At p)).held ≡ true
-  pub right_name : (right_in after (At p)).name ≡ (right_in before (At p)).name
+  pub right-held : (right_in after (Some p)).held ≡ true
+  pub right_name : (right_in after (Some p)).name ≡ (right_in before (Some p)).name
 
 pub record Grant (b : Pages) (s : List ℕ) (a : After) : Type 0 where
   pub message : Message
   pub k : ℕ
   pub p : ℕ
-  pub read : (reading s).frame ≡ Whole (MessageFrame message)
+  pub read : (reading s).frame ≡ Ok (MessageFrame message)
   pub good : message.good ≡ true
   -- the key of the message's ID
-  pub its_key : is_key message.id (key_in b (At k)) ≡ true
+  pub its_key : is_key message.id (key_in b (Some k)) ≡ true
   -- the fitting right in the lowest place that can pay
-  pub fits : Fits message (right_in b (At p))
-  pub lowest : (j : ℕ) → j < p → paying b message (right_in b (At j)) ≡ false
+  pub fits : Fits message (right_in b (Some p))
+  pub lowest : (j : ℕ) → j < p → paying b message (right_in b (Some j)) ≡ false
   -- exactly one right is charged
-  pub pays : Pays (right_in b (At p)).account b.purse (right_in a.book (At p)).account a.book.purse
-  pub replays : Replays (right_in b (At p)).name.spe message.ts (key_in b (At k)).replay (key_in a.book (At k)).replay
+  pub pays : Pays (right_in b (Some p)).account b.purse (right_in a.book (Some p)).account a.book.purse
+  pub replays : Replays (right_in b (Some p)).name.spe message.ts (key_in b (Some k)).replay (key_in a.book (Some k)).replay
   pub nothing_else : NothingElse k p b a.book
   -- the key's sixteen bytes go to the lent key buffer
-  pub handed : a.buffer ≡ (key_in b (At k)).bytes
+  pub handed : a.buffer ≡ (key_in b (Some k)).bytes
   pub sixteen : length a.buffer ≡ key_bytes
   pub reply : a.reply ≡ Granted (shown a.book k p)
 
@@ -124,15 +124,15 @@ pub record Loading (b : Pages) (s : List ℕ) (a : After) : Type 0 where
   pub load : Load
   pub k : ℕ
   pub p : ℕ
-  pub read : (reading s).frame ≡ Whole (LoadFrame load)
+  pub read : (reading s).frame ≡ Ok (LoadFrame load)
   pub proper : load.name.interval.low.0 < load.name.interval.high.0
   pub costless : is_counted load.name.spe ≡ true → load.cost.0 ≡ 0
   pub key_place : Takes (λ x. is_key load.name.id x) (λ x. x.held) free_key b.keys k
   pub right_place : Takes (λ r. is_right load.name r) (λ r. r.held) free_right b.rights p
-  pub key : LoadsKey load (reading s).key (key_in b (At k)) (key_in a.book (At k))
-  pub right-held : (right_in a.book (At p)).held ≡ true
-  pub right_name : (right_in a.book (At p)).name ≡ load.name
-  pub settles : Settles load (right_in b (At p)) b.purse (right_in a.book (At p)).account a.book.purse
+  pub key : LoadsKey load (reading s).key (key_in b (Some k)) (key_in a.book (Some k))
+  pub right-held : (right_in a.book (Some p)).held ≡ true
+  pub right_name : (right_in a.book (Some p)).name ≡ load.name
+  pub settles : Settles load (right_in b (Some p)) b.purse (right_in a.book (Some p)).account a.book.purse
   -- nothing else alters
   pub other_keys : OnlyAt free_key k b.keys a.book.keys
   pub other-rights : OnlyAt free_right p b.rights a.book.rights
@@ -142,11 +142,11 @@ pub record Loading (b : Pages) (s : List ℕ) (a : After) : Type 0 where
 pub record Erasure (b : Pages) (s : List ℕ) (a : After) : Type 0 where
   pub load : Load
   pub k : ℕ
-  pub read : (reading s).frame ≡ Whole (LoadFrame load)
+  pub read : (reading s).frame ≡ Ok (LoadFrame load)
   pub deletion : is_deletion load.name.spe ≡ true
   pub no_flag : (load.flags.add ≡ false) × (load.flags.key ≡ false)
   pub no_figure : (load.amount ≡ 0) × (load.cost.0 ≡ 0)
-  pub its_key : is_key load.name.id (key_in b (At k)) ≡ true
+  pub its_key : is_key load.name.id (key_in b (Some k)) ≡ true
   pub keys : Gone (λ x. is_key load.name.id x) free_key b.keys a.book.keys
   pub rights : Gone (λ r. is_of load.name.id r) free_right b.rights a.book.rights
   pub purse : a.book.purse ≡ b.purse
@@ -158,8 +158,8 @@ pub record Erasure (b : Pages) (s : List ℕ) (a : After) : Type 0 where
 pub record Deletion (b : Pages) (s : List ℕ) (a : After) : Type 0 where
   pub name : RightName
   pub p : ℕ
-  pub read : (reading s).frame ≡ Whole (DeleteFrame name)
-  pub its_right : is_right name (right_in b (At p)) ≡ true
+  pub read : (reading s).frame ≡ Ok (DeleteFrame name)
+  pub its_right : is_right name (right_in b (Some p)) ≡ true
   pub rights : Gone (λ r. is_right name r) free_right b.rights a.book.rights
   pub key_stays : missing (first (λ r. is_of name.id r) a.book.rights) ≡ false → a.book.keys ≡ b.keys
   pub key_goes : missing (first (λ r. is_of name.id r) a.book.rights) ≡ true → Gone (λ x. is_key name.id x) free_key b.keys a.book.keys
@@ -170,9 +170,9 @@ pub record Report (b : Pages) (s : List ℕ) (a : After) : Type 0 where
   pub name : RightName
   pub k : ℕ
   pub p : ℕ
-  pub read : (reading s).frame ≡ Whole (ReportFrame name)
-  pub its_key : is_key name.id (key_in b (At k)) ≡ true
-  pub its_right : is_right name (right_in b (At p)) ≡ true
+  pub read : (reading s).frame ≡ Ok (ReportFrame name)
+  pub its_key : is_key name.id (key_in b (Some k)) ≡ true
+  pub its_right : is_right name (right_in b (Some p)) ≡ true
   pub book : a.book ≡ b
   pub reply : a.reply ≡ Reported (shown b k p)
 
@@ -185,12 +185,12 @@ pub record Unchanged (b : Pages) (u : List ℕ) (a : After) : Type 0 where
 
 -- 17, right held: as held; else FF, 0, purse, 0
 pub data Over (b : Pages) (n : RightName) : Reply → Type 0 where
-  right-held : (k p : ℕ) → is_key n.id (key_in b (At k)) ≡ true → is_right n (right_in b (At p)) ≡ true → Over b n (OverHeld (shown b k p))
-  right_new : ((j : ℕ) → is_right n (right_in b (At j)) ≡ false) → Over b n (OverNew b.purse)
+  right-held : (k p : ℕ) → is_key n.id (key_in b (Some k)) ≡ true → is_right n (right_in b (Some p)) ≡ true → Over b n (OverHeld (shown b k p))
+  right_new : ((j : ℕ) → is_right n (right_in b (Some j)) ≡ false) → Over b n (OverNew b.purse)
 
 pub data Outcome (b : Pages) (s u : List ℕ) (a : After) : Type 0 where
   refused : (r : Refusal) → a.reply ≡ Refused r → 0x10 ≤ code a.reply → Unchanged b u a → Outcome b s u a
-  limit_passed : (l : Load) → (reading s).frame ≡ Whole (LoadFrame l) → Over b l.name a.reply → code a.reply ≡ 0x17 → Unchanged b u a → Outcome b s u a
+  limit_passed : (l : Load) → (reading s).frame ≡ Ok (LoadFrame l) → Over b l.name a.reply → code a.reply ≡ 0x17 → Unchanged b u a → Outcome b s u a
   granted : code a.reply ≡ 0x01 → Grant b s a → Outcome b s u a
   reported : code a.reply ≡ 0x02 → Report b s a → a.buffer ≡ u → Outcome b s u a
   loaded : code a.reply ≡ 0x00 → Loading b s a → a.buffer ≡ u → Outcome b s u a
@@ -208,8 +208,8 @@ GrantsCharge = (z : Sizes) (b : Pages) → Sound z b → (s u : List ℕ) → co
 -- and whenever the mark is good, the ID is held, and some right fits and can pay
 abbrev pub GrantsWhenPaid : Type 0
 GrantsWhenPaid =
-    (b : Pages) (s u : List ℕ) (m : Message) (j : ℕ) → length u ≡ key_bytes → (reading s).frame ≡ Whole (MessageFrame m)
-    → m.good ≡ true → missing (key_at b m.id) ≡ false → paying b m (right_in b (At j)) ≡ true → code (call b s u).reply ≡ 0x01
+    (b : Pages) (s u : List ℕ) (m : Message) (j : ℕ) → length u ≡ key_bytes → (reading s).frame ≡ Ok (MessageFrame m)
+    → m.good ≡ true → missing (key_at b m.id) ≡ false → paying b m (right_in b (Some j)) ≡ true → code (call b s u).reply ≡ 0x01
 
 -- after a code of 10 or more, book and buffers are unchanged
 abbrev pub RefusalsAlterNothing : Type 0
@@ -225,4 +225,4 @@ WrongBuffer = (b : Pages) (s u : List ℕ) → (length u ≡ key_bytes → ⊥) 
 
 -- 11, the reader's tests fail
 abbrev pub ReaderRefuses : Type 0
-ReaderRefuses = (b : Pages) (s u : List ℕ) (r : Refusal) → length u ≡ key_bytes → (reading s).frame ≡ Unread r → call b s u ≡ unchanged b u (Refused r)
+ReaderRefuses = (b : Pages) (s u : List ℕ) (r : Refusal) → length u ≡ key_bytes → (reading s).frame ≡ Err r → call b s u ≡ unchanged b u (Refused r)

@@ -4,7 +4,7 @@ use Rattle.places.specs.Words.{first, at, or_else}
 use Rattle.figures.specs.Limits.{key_places, right_places, no_place}
 use Rattle.figures.specs.Rights.{free_right, is_right}
 use Rattle.figures.specs.Keys.{free_key, is_key}
-use Rattle.rules.specs.Types.{Found, At, Nowhere, Tokens, KeyId, RightName, Right, Key, Shown}
+use Rattle.rules.specs.Types.{Option, Some, None, Tokens, KeyId, RightName, Right, Key, Shown}
 
 -- keys, rights and one user purse
 pub record Pages : Type 0 where
@@ -30,31 +30,31 @@ empty_book = blank (record { keys = key_places; rights = right_places })
 -- ## Looking up
 
 -- the place of the key of an ID, of the right of a name
-unfoldable pub key_at : Pages → KeyId → Found
+unfoldable pub key_at : Pages → KeyId → Option ℕ
 key_at b i = first (λ k. is_key i k) b.keys
 
-unfoldable pub right_at : Pages → RightName → Found
+unfoldable pub right_at : Pages → RightName → Option ℕ
 right_at b n = first (λ r. is_right n r) b.rights
 
 -- what a place holds; a free one where there is no such place
-unfoldable pub key_in : Pages → Found → Key
+unfoldable pub key_in : Pages → Option ℕ → Key
 key_in b k = at free_key k b.keys
 
-unfoldable pub right_in : Pages → Found → Right
+unfoldable pub right_in : Pages → Option ℕ → Right
 right_in b r = at free_right r b.rights
 
 -- the lowest free place of its sort
-unfoldable pub free_key_at : Pages → Found
+unfoldable pub free_key_at : Pages → Option ℕ
 free_key_at b = first (λ k. not k.held) b.keys
 
-unfoldable pub free_right_at : Pages → Found
+unfoldable pub free_right_at : Pages → Option ℕ
 free_right_at b = first (λ r. not r.held) b.rights
 
 -- where a key or right goes: the place it is held in, or else the lowest free one
-unfoldable pub key_room : Pages → KeyId → Found
+unfoldable pub key_room : Pages → KeyId → Option ℕ
 key_room b i = or_else (key_at b i) (free_key_at b)
 
-unfoldable pub right_room : Pages → RightName → Found
+unfoldable pub right_room : Pages → RightName → Option ℕ
 right_room b n = or_else (right_at b n) (free_right_at b)
 
 -- ## What a reply shows
@@ -66,12 +66,12 @@ purse_of b n = b.purse
 unfoldable pub user_purse : Pages → Tokens
 user_purse b = b.purse
 
-abbrev pub place_number : Found → ℕ
-place_number (At i) = i
-place_number Nowhere = no_place
+abbrev pub place_number : Option ℕ → ℕ
+place_number (Some i) = i
+place_number None = no_place
 
 -- the right in a place and the key in a place, as held
-unfoldable pub as_held : Pages → Found → Found → Shown
+unfoldable pub as_held : Pages → Option ℕ → Option ℕ → Shown
 as_held b k r =
     record {
       place = place_number r;

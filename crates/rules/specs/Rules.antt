@@ -3,7 +3,7 @@ use Rattle.std.specs.Prelude.{ℕ, not, List, [], length, eqb, if◌then◌else�
 use Rattle.figures.specs.Limits.{key_bytes}
 use Rattle.figures.specs.Policies.{is_deletion}
 use Rattle.frames.specs.Reading.{reading}
-use Rattle.rules.specs.Types.{Load, Refused, BufferLength, Frame, LoadFrame, MessageFrame, ReportFrame, DeleteFrame, Seen, Whole, Unread}
+use Rattle.rules.specs.Types.{Load, Refused, BufferLength, Frame, LoadFrame, MessageFrame, ReportFrame, DeleteFrame, Seen, Ok, Err}
 use Rattle.rules.specs.Pages.{Pages}
 use Rattle.rules.specs.Calls.{After, Check, ◌⇒◌∣◌, unchanged, unless}
 use Rattle.rules.specs.Loads.{store}
@@ -32,8 +32,8 @@ step b f key u = unless b u (buffer_refusals u) (act b u f key)
 
 -- what was read: a frame, or the reader's refusal
 unfoldable pub taken : Pages → List ℕ → Seen → List ℕ → After
-taken b u (Whole f) key = act b u f key
-taken b u (Unread r) key = unchanged b u (Refused r)
+taken b u (Ok f) key = act b u f key
+taken b u (Err r) key = unchanged b u (Refused r)
 
 -- a byte string and the lent key buffer
 unfoldable pub call : Pages → List ℕ → List ℕ → After

@@ -1,67 +1,34 @@
-use Rattle.std.proofs.Common.{◌≡◌, ◌<◌, List, ℕ, length, ap, ◌∙◌, arith, rules}
-use borrow.Author.Tests.{lt-ltb, le-ltb}
-use lib.ListN.{length-set}
+use Rattle.std.proofs.Common.{◌≡◌, length, get_or, refl, ap, ◌∙◌, arith}
+use Rattle.std.proofs.lemmas.Slice.{put_mid-paste}
 use Rattle.book.specs.Pages.{pages}
-use Rattle.lines.specs.Hex.{reply_line}
-use Rattle.lines.specs.Answers.{answer}
-use Rattle.lines.specs.Feeding.{seen, kept, feeding}
-use Rattle.lines.proofs.Going.{take-kept, going_answer, going_char, going_end, going_full}
-use Rattle.lines.proofs.feed.Invariants.{state}
+use Rattle.lines.specs.declared.TheConstants.{KEPT}
+use Rattle.lines.specs.Hex.{printed, reply_line}
+use Rattle.lines.specs.Feeding.{answered, seen, feeding}
+use Rattle.lines.proofs.Printing.{printed_long}
+use Rattle.lines.proofs.Going.{held, held_longer, going_line, going_char, going_end, going_full}
 use Rattle.lines.proofs.feed.Goals as goal
-use Rattle.lines.proofs.feed.Goals.{then-c-eq-LINE_FEED+else-out-made-lt-REPLY_LINE, else-c-eq-LINE_FEED+then-count-lt-KEPT, else-c-eq-LINE_FEED+else-count-lt-KEPT}
-use Rattle.lines.proofs.feed.Goals.{else-loop-used-test, then-loop-used-test+then-c-eq-LINE_FEED+then-out-made-lt-REPLY_LINE}
+
+pub loop-used-preserved-then-c-ne-LINE_FEED : goal.loop-used-preserved-then-c-ne-LINE_FEED
+loop-used-preserved-then-c-ne-LINE_FEED c =
+    let p = c.loop-used in
+    let b = pages p.state.book in
+    rw (ap (held b) c.push.ensures ∙ held_longer b KEPT p.state.line (get_or c.args.input.now p.used 0) (omega arith))
+    (going_char p.invariant (omega arith) c.if-c-ne-LINE_FEED.true)
+
+pub returns-then-out-made-lt-REPLY_LINE : goal.returns-then-out-made-lt-REPLY_LINE
+unfolding feeding
+returns-then-out-made-lt-REPLY_LINE c = going_full c.loop-used.invariant (omega arith) (omega arith) (omega arith)
 
 pub loop-used-preserved : goal.loop-used-preserved
 loop-used-preserved c =
-    let a = c.args in
     let p = c.loop-used in
-    let l = a.input.now in
-    let o = a.out.now in
-    let s = state p.called p.line p.count in
-    let h : p.used < length l = omega arith in
-    elim c.if-c-eq-LINE_FEED.branch [
-      | then-c-eq-LINE_FEED+else-out-made-lt-REPLY_LINE w ↦
-          let t = take-kept s w.kept-size.result p.invariant.1 w.kept-size.ensures in
-          let k : length w.reply_line.result ≡ reply_line = search rules in
-          rw (w.out-is, w.line-is, w.called-is, w.made-is) (
-            omega arith,
-            p.invariant.1,
-            w.put_line.auto.out ∙ p.invariant.2,
-            omega arith,
-            going_answer l o (seen a.state) p.out s p.used p.made p.invariant.4 h w.if-c-eq-LINE_FEED.true (omega arith)
-                (pages w.reply_to-called.result.book) c.if-c-eq-LINE_FEED.count w.reply_to-called.result.reply w.reply_line.result
-                (w.reply_to-called.ensures.book ∙ ap (λ (x : List ℕ). (answer s.book x).book) t) (omega arith)
-                (w.reply_to-called.ensures.reply ∙ ap (λ (x : List ℕ). (answer s.book x).reply) t)
-                w.reply_line.ensures k w.put_line.new.out w.put_line.ensures,
-          )
-      | else-c-eq-LINE_FEED+then-count-lt-KEPT w ↦
-          rw (w.out-is, w.line-is, w.count-is, w.called-is, w.made-is) (
-            omega arith,
-            simp length-set p.invariant.1,
-            p.invariant.2,
-            p.invariant.3,
-            rw (lt-ltb p.count kept (omega arith)) at (going_char l o (seen a.state) p.out s p.used p.made p.invariant.4 h w.if-c-eq-LINE_FEED.false),
-          )
-      | else-c-eq-LINE_FEED+else-count-lt-KEPT w ↦
-          rw (w.out-is, w.line-is, w.count-is, w.called-is, w.made-is) (
-            omega arith,
-            p.invariant.1,
-            p.invariant.2,
-            p.invariant.3,
-            rw (le-ltb p.count kept (omega arith)) at (going_char l o (seen a.state) p.out s p.used p.made p.invariant.4 h w.if-c-eq-LINE_FEED.false),
-          )
-    ]
+    let t = printed (answered (seen p.state)).reply in
+    let n : length t ≡ reply_line = printed_long (answered (seen p.state)).reply in
+    let e = c.copy_from_slice.ensures.after ∙ c.reply_line-line.ensures ∙ ap printed c.end_line.ensures.reply in
+    rw c.end_line.ensures.state
+    (going_line p.invariant (omega arith) (omega arith) (omega arith) _
+    (put_mid-paste p.made _ p.out c.copy_from_slice.new.self t (length t) e (omega arith) refl))
 
 pub returns : goal.returns
 unfolding feeding
-returns c =
-    let a = c.args in
-    let p = c.loop-used in
-    let l = a.input.now in
-    let o = a.out.now in
-    let s = state p.called p.line p.count in
-    elim c.loop-used-test.branch [
-      | else-loop-used-test w ↦ going_end l o (seen a.state) p.out s p.used p.made p.invariant.4 (omega arith) p.invariant.3
-      | then-loop-used-test+then-c-eq-LINE_FEED+then-out-made-lt-REPLY_LINE w ↦
-          going_full l o (seen a.state) p.out s p.used p.made p.invariant.4 (omega arith) w.if-c-eq-LINE_FEED.true (omega arith) p.invariant.3
-    ]
+returns c = going_end c.loop-used.invariant (omega arith)

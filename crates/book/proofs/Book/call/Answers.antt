@@ -1,12 +1,11 @@
--- The buffer is tested first; then each frame goes to its own method.
-use Rattle.std.proofs.Common.{◌≡◌, ℕ, List, ap, refl, sym, ◌∙◌}
+-- The buffer is tested first, then what was read.
+use Rattle.std.proofs.Common.{◌≡◌, ℕ, List, ap, sym, ◌∙◌}
 use borrow.Author.Tests.{eqb-true, not-false}
-use Rattle.places.specs.Words.{failed}
-use Rattle.frames.specs.declared.Seen.{Seen}
 use Rattle.frames.specs.declared.ReadFrame.{ReadFrame}
+use Rattle.frames.specs.Types.{Seen}
 use Rattle.frames.specs.Reading.{seen, key_beside, reading}
-use Rattle.rules.specs.Rules.{call, buffer_refusals, taken, act}
-use Rattle.rules.proofs.Refusals.{passed, refused-at}
+use Rattle.rules.specs.Calls.{unless}
+use Rattle.rules.specs.Rules.{call, buffer_refusals, taken}
 use Rattle.book.proofs.Book.call.Goals as goal
 
 frame_of : (x : ReadFrame) (s : List ℕ) (f : Seen) → x ≡ reading s → x.frame ≡ f → seen s ≡ f
@@ -16,42 +15,21 @@ key_of : (x : ReadFrame) (s : List ℕ) → x ≡ reading s → key_beside s ≡
 key_of x s e = sym (ap (λ (y : ReadFrame). y.key) e)
 
 pub returns-in_default : goal.returns-in_default
-unfolding call buffer_refusals
-returns-in_default c = rw c.refused.ensures (refused-at 0 _ _ _ _ _ (sym c.room.ensures ∙ ap failed c.in_default.is, refl))
+unfolding call buffer_refusals unless
+returns-in_default c = simp (c.refused.ensures, ← c.in_default.ensures)
 
-pub returns-in-Unread : goal.returns-in-Unread
-unfolding call taken buffer_refusals
-returns-in-Unread c =
-    rw (c.refused-in-Unread.ensures, frame_of _ _ _ c.read-read.ensures c.in-Unread.is)
-    (passed _ _ _ _ (sym c.room.ensures ∙ ap failed c.in-Passed.is, tt))
+pub act-requires : goal.act-requires
+act-requires c = eqb-true _ _ (not-false _ (sym c.in-Passed.ensures))
 
-pub returns-in-Load : goal.returns-in-Load
-unfolding call taken act buffer_refusals
-returns-in-Load c =
-    let e = c.read-read.ensures in
-    rw (frame_of _ _ _ e c.in-Whole.is, key_of _ _ e, c.in-Load.is)
-    (c.load.ensures _ ∙ passed _ _ _ _ (sym c.room.ensures ∙ ap failed c.in-Passed.is, tt))
+pub returns-in-Err : goal.returns-in-Err
+unfolding call taken buffer_refusals unless
+returns-in-Err c =
+    let f = frame_of _ _ _ c.read-read.ensures c.in-Err.is in
+    simp (c.refused-in-Err.ensures, ← c.in-Passed.ensures, f)
 
-pub message-requires : goal.message-requires
-message-requires c = eqb-true _ _ (not-false _ (sym c.room.ensures ∙ ap failed c.in-Passed.is))
-
-pub returns-in-Message : goal.returns-in-Message
-unfolding call taken act buffer_refusals
-returns-in-Message c =
-    let e = c.read-read.ensures in
-    rw (frame_of _ _ _ e c.in-Whole.is, key_of _ _ e, c.in-Message.is)
-    (c.message.ensures ∙ passed _ _ _ _ (sym c.room.ensures ∙ ap failed c.in-Passed.is, tt))
-
-pub returns-in-Report : goal.returns-in-Report
-unfolding call taken act buffer_refusals
-returns-in-Report c =
-    let e = c.read-read.ensures in
-    rw (frame_of _ _ _ e c.in-Whole.is, key_of _ _ e, c.in-Report.is)
-    (c.report.ensures _ ∙ passed _ _ _ _ (sym c.room.ensures ∙ ap failed c.in-Passed.is, tt))
-
-pub returns-in-Delete : goal.returns-in-Delete
-unfolding call taken act buffer_refusals
-returns-in-Delete c =
-    let e = c.read-read.ensures in
-    rw (frame_of _ _ _ e c.in-Whole.is, key_of _ _ e, c.in-Delete.is)
-    (c.delete.ensures _ ∙ passed _ _ _ _ (sym c.room.ensures ∙ ap failed c.in-Passed.is, tt))
+pub returns-in-Ok : goal.returns-in-Ok
+unfolding call taken buffer_refusals unless
+returns-in-Ok c =
+    let f = frame_of _ _ _ c.read-read.ensures c.in-Ok.is in
+    let k = key_of _ _ c.read-read.ensures in
+    c.act.ensures ∙ simp (← c.in-Passed.ensures, f, k)

@@ -8,5 +8,5 @@ pub returns : goal.returns
 unfolding put
 returns c =
     let s = c.args in
-    rw (c.hand_out.ensures, c.shown_of-shown.ensures, c.charged-charged.ensures, c.granted-next.ensures, c.spend-purse.ensures)
+    rw (c.copy_from_slice.ensures.after, c.shown_of-shown.ensures, c.charged-charged.ensures, c.granted-next.ensures, c.spend-purse.ensures)
     (grant_in (pages s.self) s.places.key s.places.right c.requires.held.key c.requires.held.right s.ts _ _)

@@ -1,83 +1,75 @@
--- Each check is a line of the rules' list; the walk over the rights answers two of them.
-use Rattle.std.proofs.Common.{◌≡◌, refl, ap, sym, ◌∙◌, arith}
-use Rattle.places.specs.Words.{failed, missing}
+-- Each check is a line of the rules' list; the walk over the rights, in its two parts, answers two of them.
+use Rattle.std.proofs.Common.{◌≡◌, sym, ◌∙◌, arith}
+use Rattle.places.specs.Words.{first}
 use Rattle.places.proofs.Walks.{first_in}
+use Rattle.rules.specs.Calls.{unless}
 use Rattle.rules.specs.Pages.{key_at}
-use Rattle.rules.specs.Messages.{message, message_refusals, payer}
-use Rattle.rules.proofs.Refusals.{passed, refused-at}
+use Rattle.rules.specs.Messages.{message, message_refusals, fitting, payer}
+use Rattle.rules.proofs.InPlace.{key_inside}
 use Rattle.book.specs.Pages.{pages}
-use Rattle.book.proofs.Chosen.{none-fits, some_fits, asked, chosen}
+use Rattle.book.proofs.Chosen.{fitting_found, payer_found}
 use Rattle.book.proofs.Book.message.Goals as goal
+use Rattle.book.proofs.Book.message.Goals.{After-fitting, After-payer}
+
+-- the rules' two searches
+fitted : (c : After-fitting) → c.fitting.result ≡ first (λ r. fitting (pages c.args.self) c.args.frame r) c.args.self.rights
+unfolding key_at
+fitted c = c.fitting.ensures ∙ fitting_found (pages c.args.self) c.args.frame c.in-Some.key_place _ (sym c.in-Some.ensures)
+
+pays : (c : After-payer) → c.payer.result ≡ payer (pages c.args.self) c.args.frame
+unfolding key_at
+pays c =
+    let b = pages c.args.self in
+    let m = c.args.frame in
+    let found = sym c.in-Some.ensures in
+    c.payer.ensures ∙ payer_found b m c.in-Some.key_place _ found c.in-Some-fitting.from (sym (fitting_found b m c.in-Some.key_place _ found) ∙ sym c.in-Some-fitting.ensures)
 
 pub returns-in_default : goal.returns-in_default
-unfolding message message_refusals
-returns-in_default c = rw c.refused.ensures (refused-at 0 _ _ _ _ _ (sym c.integrity.ensures ∙ ap failed c.in_default.is, refl))
+unfolding key_at message message_refusals unless
+returns-in_default c = simp (c.refused.ensures, ← c.in_default.ensures)
 
-pub returns-in_default-key_at : goal.returns-in_default-key_at
-unfolding message message_refusals key_at
-returns-in_default-key_at c =
-    rw c.refused-in_default-key_at.ensures
-    (refused-at 1 _ _ _ _ _ (
-      sym c.integrity.ensures ∙ ap failed c.in-Passed.is,
-      (ap missing (sym c.key_at.ensures ∙ c.in_default-key_at.is), refl),
-    ))
+pub returns-in_default-place_of : goal.returns-in_default-place_of
+unfolding key_at message message_refusals unless
+returns-in_default-place_of c = simp (c.refused-in_default-place_of.ensures, ← c.in-Passed.ensures, ← c.in_default-place_of.ensures)
 
-pub offset_bounds-keys-key_place : goal.offset_bounds-keys-key_place
-offset_bounds-keys-key_place c = omega (arith, first_in _ _ _ (sym c.key_at.ensures ∙ c.in-At.is))
+pub offset_bounds-self-key_place : goal.offset_bounds-self-key_place
+unfolding key_at
+offset_bounds-self-key_place c = omega (arith, key_inside (pages c.args.self) c.args.frame.id _ (sym c.in-Some.ensures))
 
-pub bounds-keys-key_place : goal.bounds-keys-key_place
-bounds-keys-key_place c = omega (arith, first_in _ _ _ (sym c.key_at.ensures ∙ c.in-At.is))
+pub bounds-self-key_place : goal.bounds-self-key_place
+unfolding key_at
+bounds-self-key_place c = omega (arith, key_inside (pages c.args.self) c.args.frame.id _ (sym c.in-Some.ensures))
 
-pub returns-in_default-choose : goal.returns-in_default-choose
-unfolding message message_refusals key_at
-returns-in_default-choose c =
-    let b = pages c.args.self in
-    let m = c.args.frame in
-    let found = sym c.key_at.ensures ∙ c.in-At.is in
-    let told : c.choose.result ≡ asked b m = c.choose.ensures ∙ chosen b m c.in-At.key_place _ found (first_in _ _ _ found) in
-    rw c.refused-in_default-choose.ensures
-    (refused-at 2 _ _ _ _ _ (
-      sym c.integrity.ensures ∙ ap failed c.in-Passed.is,
-      (ap missing found, (none-fits b m (sym told ∙ c.in_default-choose.is), refl)),
-    ))
+pub returns-in_default-fitting : goal.returns-in_default-fitting
+unfolding key_at message message_refusals unless
+returns-in_default-fitting c =
+    let f = fitted (goal.at.returns-in_default-fitting c).After-fitting in
+    simp (c.refused-in_default-fitting.ensures, ← c.in-Passed.ensures, ← c.in-Some.ensures, ← f, c.in_default-fitting.is)
 
-pub returns-in_default-paying : goal.returns-in_default-paying
-unfolding message message_refusals key_at
-returns-in_default-paying c =
-    let b = pages c.args.self in
-    let m = c.args.frame in
-    let found = sym c.key_at.ensures ∙ c.in-At.is in
-    let told : c.choose.result ≡ asked b m = c.choose.ensures ∙ chosen b m c.in-At.key_place _ found (first_in _ _ _ found) in
-    let some = some_fits b m _ (sym told ∙ c.in-Fitting.is) in
-    rw c.refused-in_default-paying.ensures
-    (refused-at 3 _ _ _ _ _ (
-      sym c.integrity.ensures ∙ ap failed c.in-Passed.is,
-      (ap missing found, (some.0, (ap missing (some.1 ∙ c.in_default-paying.is), refl))),
-    ))
+pub payer-requires : goal.payer-requires
+payer-requires c = let l = first_in _ _ _ (sym c.in-Some-fitting.ensures) in omega arith
+
+pub returns-in_default-payer : goal.returns-in_default-payer
+unfolding key_at message message_refusals payer unless
+returns-in_default-payer c =
+    let x = goal.at.returns-in_default-payer c in
+    let f = fitted x.After-fitting in
+    let p = pays x.After-payer in
+    simp (c.refused-in_default-payer.ensures, ← c.in-Passed.ensures, ← c.in-Some.ensures, ← f, c.in-Some-fitting.is, ← p, c.in_default-payer.is)
 
 pub grant-requires : goal.grant-requires
-unfolding key_at
+unfolding key_at payer
 grant-requires c =
-    let b = pages c.args.self in
-    let m = c.args.frame in
-    let found = sym c.key_at.ensures ∙ c.in-At.is in
-    let told : c.choose.result ≡ asked b m = c.choose.ensures ∙ chosen b m c.in-At.key_place _ found (first_in _ _ _ found) in
+    let p = pays (goal.at.grant-requires c).After-payer in
     record {
-      held = record { key = first_in _ _ _ found; right = first_in _ _ _ ((some_fits b m _ (sym told ∙ c.in-Fitting.is)).1 ∙ c.in-At-paying.is) };
+      held = record { key = key_inside (pages c.args.self) c.args.frame.id _ (sym c.in-Some.ensures); right = first_in _ _ _ (sym p ∙ c.in-Some-payer.is) };
       room = c.requires;
     }
 
 pub returns : goal.returns
-unfolding message message_refusals key_at payer
+unfolding key_at message message_refusals payer unless
 returns c =
-    let b = pages c.args.self in
-    let m = c.args.frame in
-    let found = sym c.key_at.ensures ∙ c.in-At.is in
-    let told : c.choose.result ≡ asked b m = c.choose.ensures ∙ chosen b m c.in-At.key_place _ found (first_in _ _ _ found) in
-    let some = some_fits b m _ (sym told ∙ c.in-Fitting.is) in
-    c.grant.ensures
-    ∙ rw (← some.1 ∙ c.in-At-paying.is, ← found)
-    (passed _ _ _ _ (
-      sym c.integrity.ensures ∙ ap failed c.in-Passed.is,
-      (ap missing found, (some.0, (ap missing (some.1 ∙ c.in-At-paying.is), tt))),
-    ))
+    let x = goal.at.returns c in
+    let f = fitted x.After-fitting in
+    let p = pays x.After-payer in
+    simp (c.grant.ensures, ← c.in-Passed.ensures, ← c.in-Some.ensures, ← f, c.in-Some-fitting.is, ← p, c.in-Some-payer.is)

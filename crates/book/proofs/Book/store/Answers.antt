@@ -1,168 +1,109 @@
 -- Each check is a line of the rules' list, in the rules' order.
-use Rattle.std.proofs.Common.{◌≡◌, refl, ap, sym, ◌∙◌}
-use Rattle.places.specs.Words.{failed, missing, or_else, at}
-use Rattle.places.proofs.Walks.{room_in}
+use Rattle.std.proofs.Common.{◌≡◌, ℕ, List, drop, sym, ◌∙◌}
 use Rattle.figures.specs.Rights.{free_right}
+use Rattle.figures.specs.Names.{no_id}
 use Rattle.figures.proofs.Settling.{within_tells, past_tells}
-use Rattle.rules.specs.Pages.{Pages, key_at, right_at, right_in, free_key_at, free_right_at, key_room, right_room, purse_of}
+use Rattle.rules.specs.Calls.{After, unless}
+use Rattle.rules.specs.Pages.{key_at, right_at, free_key_at, free_right_at, key_room, right_room, right_in, purse_of}
 use Rattle.rules.specs.Loads.{store, load_refusals, loadable, account_before, over_limit, over_reply}
-use Rattle.rules.proofs.Refusals.{passed, refused-at}
-use Rattle.book.specs.Types.{Found, KeyId, RightName, Right}
+use Rattle.rules.proofs.InPlace.{key_room_inside, right_room_inside}
 use Rattle.book.specs.Pages.{pages, Held}
 use Rattle.book.proofs.Storing.{stored_is}
 use Rattle.book.proofs.Book.store.Goals as goal
+use Rattle.book.proofs.Book.store.Goals.{In-Passed-known, In-Some-room_for, After-place_of-key, After-place_of-right, After-room_for, After-room_for-2, After-held_in-before}
 
-module _ (b : Pages) where
-  -- where the key goes, and where the right goes
-  key_goes : (i : KeyId) (k r w : Found) → k ≡ key_at b i → r ≡ or_else k (free_key_at b) → r ≡ w → key_room b i ≡ w
-  unfolding key_room
-  key_goes i k r w e f g = rw (← e) (sym f ∙ g)
+-- where the key and the right are held, by the rules
+key_is : (c : After-place_of-key) → c.place_of-key.result ≡ key_at (pages c.args.self) c.args.load.name.id
+unfolding key_at
+key_is c = c.place_of-key.ensures
 
-  right_goes : (n : RightName) (k r w : Found) → k ≡ right_at b n → r ≡ or_else k (free_right_at b) → r ≡ w → right_room b n ≡ w
-  unfolding right_room
-  right_goes n k r w e f g = rw (← e) (sym f ∙ g)
+right_is : (c : After-place_of-right) → c.place_of-right.result ≡ right_at (pages c.args.self) c.args.load.name
+unfolding right_at
+right_is c = c.place_of-right.ensures
 
-  -- the account that was settled on is the one that the rules take
-  account_is : (n : RightName) (k : Found) (x : Right) → k ≡ right_at b n → x ≡ at free_right k b.rights → x.account ≡ account_before b n
-  unfolding account_before right_in
-  account_is n k x e f = rw (f, e)
+-- where the key goes, where the right goes, and the account that is settled on, by the rules
+key_goes : (c : After-room_for) → c.room_for.result ≡ key_room (pages c.args.self) c.args.load.name.id
+unfolding key_room key_at free_key_at
+key_goes c = rw c.room_for.ensures (rw c.place_of-key.ensures)
+
+right_goes : (c : After-room_for-2) → c.room_for-2.result ≡ right_room (pages c.args.self) c.args.load.name
+unfolding right_room right_at free_right_at
+right_goes c = rw c.room_for-2.ensures (rw c.place_of-right.ensures)
+
+account_is : (c : After-held_in-before) → c.held_in-before.result.account ≡ account_before (pages c.args.self) c.args.load.name
+unfolding account_before right_at right_in free_right no_id
+account_is c = rw (c.held_in-before.ensures, c.place_of-right.ensures)
+
+-- the first four checks pass
+four_pass : (c : In-Passed-known) (u : List ℕ) (d : After)
+    → unless (pages c.args.self) u (load_refusals (pages c.args.self) c.args.load) d ≡ unless (pages c.args.self) u (drop 4 (load_refusals (pages c.args.self) c.args.load)) d
+unfolding load_refusals loadable key_at unless
+four_pass c u d =
+    simp (← c.in-Passed.ensures, ← c.in-Passed-free_of_cost.ensures, ← c.in-Passed-proper.ensures, ← c.place_of-key.ensures, ← c.in-Passed-known.ensures)
+
+-- the first six pass
+six_pass : (c : In-Some-room_for) (u : List ℕ) (d : After)
+    → unless (pages c.args.self) u (load_refusals (pages c.args.self) c.args.load) d ≡ unless (pages c.args.self) u (drop 6 (load_refusals (pages c.args.self) c.args.load)) d
+unfolding load_refusals unless
+six_pass c u d =
+    let x = goal.at.In-Some-room_for c in
+    simp (four_pass x.In-Passed-known, ← key_goes x.After-room_for, c.in-Some.is, ← right_goes x.After-room_for-2, c.in-Some-room_for.is)
 
 pub returns-in_default : goal.returns-in_default
-unfolding store load_refusals loadable
-returns-in_default c =
-    λ u. rw c.refused.ensures
-    (refused-at 0 _ u _ _ _ (sym c.policy.ensures ∙ ap failed c.in_default.is, refl))
+unfolding store load_refusals loadable unless
+returns-in_default c = λ u. simp (c.refused.ensures, ← c.in_default.ensures)
 
 pub returns-in_default-free_of_cost : goal.returns-in_default-free_of_cost
-unfolding store load_refusals loadable
-returns-in_default-free_of_cost c =
-    λ u. rw c.refused-in_default-free_of_cost.ensures
-    (refused-at 1 _ u _ _ _ (
-      sym c.policy.ensures ∙ ap failed c.in-Passed.is,
-      (sym c.free_of_cost.ensures ∙ ap failed c.in_default-free_of_cost.is, refl),
-    ))
+unfolding store load_refusals loadable unless
+returns-in_default-free_of_cost c = λ u. simp (c.refused-in_default-free_of_cost.ensures, ← c.in-Passed.ensures, ← c.in_default-free_of_cost.ensures)
 
 pub returns-in_default-proper : goal.returns-in_default-proper
-unfolding store load_refusals loadable
+unfolding store load_refusals loadable unless
 returns-in_default-proper c =
-    λ u. rw c.refused-in_default-proper.ensures
-    (refused-at 2 _ u _ _ _ (
-      sym c.policy.ensures ∙ ap failed c.in-Passed.is,
-      (sym c.free_of_cost.ensures ∙ ap failed c.in-Passed-free_of_cost.is, (sym c.proper.ensures ∙ ap failed c.in_default-proper.is, refl)),
-    ))
+    λ u. simp (c.refused-in_default-proper.ensures, ← c.in-Passed.ensures, ← c.in-Passed-free_of_cost.ensures, ← c.in_default-proper.ensures)
 
 pub returns-in_default-known : goal.returns-in_default-known
-unfolding store load_refusals loadable key_at
+unfolding store load_refusals loadable key_at unless
 returns-in_default-known c =
-    λ u. rw c.refused-in_default-known.ensures
-    (refused-at 3 _ u _ _ _ (
-      sym c.policy.ensures ∙ ap failed c.in-Passed.is,
-      (
-        sym c.free_of_cost.ensures ∙ ap failed c.in-Passed-free_of_cost.is,
-        (
-          sym c.proper.ensures ∙ ap failed c.in-Passed-proper.is,
-          (rw (← c.key_at-key.ensures) (sym c.known.ensures ∙ ap failed c.in_default-known.is), refl),
-        ),
-      ),
-    ))
+    λ u. simp (c.refused-in_default-known.ensures, ← c.in-Passed.ensures, ← c.in-Passed-free_of_cost.ensures, ← c.in-Passed-proper.ensures, ← c.place_of-key.ensures, ← c.in_default-known.ensures)
 
-pub returns-in_default-key_room : goal.returns-in_default-key_room
-unfolding store load_refusals loadable key_at free_key_at
-returns-in_default-key_room c =
-    λ u. rw c.refused-in_default-key_room.ensures
-    (refused-at 4 _ u _ _ _ (
-      sym c.policy.ensures ∙ ap failed c.in-Passed.is,
-      (
-        sym c.free_of_cost.ensures ∙ ap failed c.in-Passed-free_of_cost.is,
-        (
-          sym c.proper.ensures ∙ ap failed c.in-Passed-proper.is,
-          (
-            rw (← c.key_at-key.ensures) (sym c.known.ensures ∙ ap failed c.in-Passed-known.is),
-            (ap missing (key_goes (pages c.args.self) _ _ _ _ c.key_at-key.ensures c.key_room.ensures c.in_default-key_room.is), refl),
-          ),
-        ),
-      ),
-    ))
+pub returns-in_default-room_for : goal.returns-in_default-room_for
+unfolding store load_refusals unless
+returns-in_default-room_for c =
+    let x = goal.at.returns-in_default-room_for c in
+    λ u. simp (c.refused-in_default-room_for.ensures, four_pass x.In-Passed-known, ← key_goes x.After-room_for, c.in_default-room_for.is)
 
-pub returns-in_default-right_room : goal.returns-in_default-right_room
-unfolding store load_refusals loadable key_at free_key_at right_at free_right_at
-returns-in_default-right_room c =
-    let b = pages c.args.self in
-    λ u. rw c.refused-in_default-right_room.ensures
-    (refused-at 5 _ u _ _ _ (
-      sym c.policy.ensures ∙ ap failed c.in-Passed.is,
-      (
-        sym c.free_of_cost.ensures ∙ ap failed c.in-Passed-free_of_cost.is,
-        (
-          sym c.proper.ensures ∙ ap failed c.in-Passed-proper.is,
-          (
-            rw (← c.key_at-key.ensures) (sym c.known.ensures ∙ ap failed c.in-Passed-known.is),
-            (
-              ap missing (key_goes b _ _ _ _ c.key_at-key.ensures c.key_room.ensures c.in-At.is),
-              (ap missing (right_goes b _ _ _ _ c.right_at-right.ensures c.right_room.ensures c.in_default-right_room.is), refl),
-            ),
-          ),
-        ),
-      ),
-    ))
+pub returns-in_default-room_for-2 : goal.returns-in_default-room_for-2
+unfolding store load_refusals unless
+returns-in_default-room_for-2 c =
+    let x = goal.at.returns-in_default-room_for-2 c in
+    λ u. simp (c.refused-in_default-room_for-2.ensures, four_pass x.In-Passed-known, ← key_goes x.After-room_for, c.in-Some.is, ← right_goes x.After-room_for-2, c.in_default-room_for-2.is)
 
 pub returns-in_default-settled : goal.returns-in_default-settled
-unfolding store load_refusals loadable key_at free_key_at right_at free_right_at over_limit over_reply purse_of
+unfolding store load_refusals over_limit over_reply purse_of unless
 returns-in_default-settled c =
-    let b = pages c.args.self in
-    let account = account_is b c.args.load.name _ _ c.right_at-right.ensures c.right_in-account.ensures in
-    λ u. rw (c.over.ensures, c.key_at-key.ensures, c.right_at-right.ensures)
-    (refused-at 6 _ u _ _ _ (
-      sym c.policy.ensures ∙ ap failed c.in-Passed.is,
-      (
-        sym c.free_of_cost.ensures ∙ ap failed c.in-Passed-free_of_cost.is,
-        (
-          sym c.proper.ensures ∙ ap failed c.in-Passed-proper.is,
-          (
-            rw (← c.key_at-key.ensures) (sym c.known.ensures ∙ ap failed c.in-Passed-known.is),
-            (
-              ap missing (key_goes b _ _ _ _ c.key_at-key.ensures c.key_room.ensures c.in-At.is),
-              (
-                ap missing (right_goes b _ _ _ _ c.right_at-right.ensures c.right_room.ensures c.in-At-right_room.is),
-                (rw (← account) (past_tells _ _ _ (sym c.settled.ensures ∙ c.in_default-settled.is)), refl),
-              ),
-            ),
-          ),
-        ),
-      ),
-    ))
+    let x = goal.at.returns-in_default-settled c in
+    let past = past_tells _ _ _ (sym c.in_default-settled.ensures) in
+    λ u. simp (c.over.ensures, six_pass x.In-Some-room_for, ← account_is x.After-held_in-before, past, key_is x.After-place_of-key, right_is x.After-place_of-right)
 
 pub stored-requires : goal.stored-requires
-unfolding key_room right_room key_at right_at free_key_at free_right_at
 stored-requires c =
-    let b = pages c.args.self in
+    let x = goal.at.stored-requires c in
     record {
-      key = room_in _ _ _ _ (key_goes b c.args.load.name.id _ _ _ c.key_at-key.ensures c.key_room.ensures c.in-At.is);
-      right = room_in _ _ _ _ (right_goes b c.args.load.name _ _ _ c.right_at-right.ensures c.right_room.ensures c.in-At-right_room.is);
+      key = key_room_inside _ _ _ (sym (key_goes x.After-room_for) ∙ c.in-Some.is);
+      right = right_room_inside _ _ _ (sym (right_goes x.After-room_for-2) ∙ c.in-Some-room_for.is);
     }
 
 pub returns : goal.returns
-unfolding store load_refusals loadable key_room right_room key_at free_key_at right_at free_right_at over_limit purse_of
+unfolding store load_refusals over_limit purse_of unless
 returns c =
+    let x = goal.at.returns c in
     let s = c.args in
-    let b = pages s.self in
-    let account = account_is b s.load.name _ _ c.right_at-right.ensures c.right_in-account.ensures in
-    let key = key_goes b s.load.name.id _ _ _ c.key_at-key.ensures c.key_room.ensures c.in-At.is in
-    let right = right_goes b s.load.name _ _ _ c.right_at-right.ensures c.right_room.ensures c.in-At-right_room.is in
-    let held : Held s.self (record { key = c.in-At.key_place; right = c.in-At-right_room.right_place }) = record { key = room_in _ _ _ _ key; right = room_in _ _ _ _ right } in
-    let within = within_tells _ _ _ _ (sym c.settled.ensures ∙ c.in-Within.is) in
-    λ u. rw (c.stored.ensures, ← within.1, account, c.key_at-key.ensures)
-    (stored_is s.self s.load s.bytes _ held key right u
-    ∙ passed _ u _ _ (
-      sym c.policy.ensures ∙ ap failed c.in-Passed.is,
-      (
-        sym c.free_of_cost.ensures ∙ ap failed c.in-Passed-free_of_cost.is,
-        (
-          sym c.proper.ensures ∙ ap failed c.in-Passed-proper.is,
-          (
-            rw (← c.key_at-key.ensures) (sym c.known.ensures ∙ ap failed c.in-Passed-known.is),
-            (ap missing key, (ap missing right, (rw (← account) within.0, tt))),
-          ),
-        ),
-      ),
-    ))
+    let within = within_tells _ _ _ _ (sym c.in-Some-settled.ensures) in
+    let key = sym (key_goes x.After-room_for) ∙ c.in-Some.is in
+    let right = sym (right_goes x.After-room_for-2) ∙ c.in-Some-room_for.is in
+    let account = account_is x.After-held_in-before in
+    let held : Held s.self (record { key = c.in-Some.key_place; right = c.in-Some-room_for.right_place }) =
+    record { key = key_room_inside _ _ _ key; right = right_room_inside _ _ _ right } in
+    λ u. rw (c.stored.ensures, ← within.1, account, key_is x.After-place_of-key)
+    (stored_is s.self s.load s.bytes _ held key right u ∙ simp (six_pass x.In-Some-room_for, ← account, within.0))

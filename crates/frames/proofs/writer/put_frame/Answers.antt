@@ -2,9 +2,6 @@
 use Rattle.frames.specs.Writing.{written_as}
 use Rattle.frames.proofs.writer.put_frame.Goals as goal
 
-pub returns-in-Load : goal.returns-in-Load
-returns-in-Load c = rw c.in-Load.is c.put_load.ensures
-
 pub returns-in-Message : goal.returns-in-Message
 unfolding written_as
 returns-in-Message c = rw c.in-Message.is c.put_message.ensures

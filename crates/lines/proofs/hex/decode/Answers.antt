@@ -1,63 +1,49 @@
-use Rattle.std.proofs.Common.{◌≡◌, ℕ, ◌+◌, ◌*◌, ◌/◌, ◌<◌, List, length, take, get_or, sym, ap, ◌∙◌, arith}
-use mathlib.Core.Path.{ap₂}
-use native.Mathlib.Nat.{zero-add}
-use lib.ListN.{length-set}
-use lib.Seq.{sets, take_all}
-use Rattle.lines.specs.Types.{Bytes}
-use Rattle.lines.specs.Hex.{digit_value, pairs, blank}
-use Rattle.frames.proofs.Stores.{sets-snoc, sets_front}
-use Rattle.lines.proofs.Spelling.{damaged-empty, damaged_odd, damaged_long, damaged-other, sound, decoding-damaged, decoding_sound}
-use Rattle.lines.proofs.Spelling.{bad_first, bad_second, good_two, one_more, so_many, all_done, length_pairs}
+use Rattle.std.proofs.Common.{◌≡◌, ◌/◌, Some, length, take, sym, ap, ◌∙◌, arith}
+use lib.Seq.{take_all}
+use Rattle.lines.specs.Rows.{Filled, filled, pushed}
+use Rattle.lines.specs.Hex.{pairs, blank}
+use Rattle.lines.proofs.Stores.{one_more}
+use Rattle.lines.proofs.Spelling.{damaged-empty, damaged_odd, damaged_long, damaged-other, sound, spells_none, spells_some}
+use Rattle.lines.proofs.Spelling.{bad_pair, good_pair, so_many, all_done, length_pairs}
 use Rattle.lines.proofs.hex.decode.Goals as goal
+use Rattle.lines.proofs.hex.decode.Goals.{then-is_empty-via-then-is_empty, then-is_empty-via-else-is_empty+then-line-eq1, then-is_empty-via-else-is_empty+else-line-eq1+then-line-gt-LINE_DIGITS}
 
-pub returns-then-count-eq0 : goal.returns-then-count-eq0
-returns-then-count-eq0 c =
+pub returns-then-is_empty : goal.returns-then-is_empty
+returns-then-is_empty c =
     let l = c.args.line.now in
-    c.damaged.ensures ∙ sym (decoding-damaged l (damaged-empty l (omega arith)))
+    spells_none l (elim c.then-is_empty.branch [
+      | then-is_empty-via-then-is_empty w ↦ damaged-empty l (sym c.is_empty.ensures ∙ w.if-is_empty.true)
+      | then-is_empty-via-else-is_empty+then-line-eq1 w ↦ damaged_odd l (omega arith)
+      | then-is_empty-via-else-is_empty+else-line-eq1+then-line-gt-LINE_DIGITS w ↦ damaged_long l (omega arith)
+    ])
 
-pub returns-then-count-eq1 : goal.returns-then-count-eq1
-returns-then-count-eq1 c =
-    let l = c.args.line.now in
-    c.damaged-then-count-eq1.ensures ∙ sym (decoding-damaged l (damaged_odd l (omega arith)))
-
-pub returns-then-count-gt-LINE_DIGITS : goal.returns-then-count-gt-LINE_DIGITS
-returns-then-count-gt-LINE_DIGITS c =
-    let l = c.args.line.now in
-    c.damaged-then-count-gt-LINE_DIGITS.ensures ∙ sym (decoding-damaged l (damaged_long l (omega arith)))
-
-pub returns-then-high-ge-NO_DIGIT : goal.returns-then-high-ge-NO_DIGIT
-returns-then-high-ge-NO_DIGIT c =
+pub returns-in_err-byte : goal.returns-in_err-byte
+returns-in_err-byte c =
     let l = c.args.line.now in
     let p = c.loop-i in
-    let bad = bad_first l p.i (omega arith) p.invariant.2 (omega arith) in
-    c.damaged-then-high-ge-NO_DIGIT.ensures ∙ sym (decoding-damaged l (damaged-other l bad))
-
-pub returns-then-low-ge-NO_DIGIT : goal.returns-then-low-ge-NO_DIGIT
-returns-then-low-ge-NO_DIGIT c =
-    let l = c.args.line.now in
-    let p = c.loop-i in
-    let bad = bad_second l p.i (omega arith) p.invariant.2 (omega arith) (omega arith) in
-    c.damaged-then-low-ge-NO_DIGIT.ensures ∙ sym (decoding-damaged l (damaged-other l bad))
+    let bad = bad_pair l p.i (omega arith) p.invariant.digits (sym c.byte.ensures ∙ c.in_err-byte.was) in
+    c.from_residual.ensures ∙ spells_none l (damaged-other l bad)
 
 pub loop-i-preserved : goal.loop-i-preserved
 loop-i-preserved c =
     let l = c.args.line.now in
     let p = c.loop-i in
-    let h : 2 * p.i + 1 < length l = omega arith in
-    let v = digit_value (get_or l (2 * p.i) 0) * 16 + digit_value (get_or l (2 * p.i + 1) 0) in (
-      omega arith,
-      simp length-set p.invariant.1,
-      good_two l p.i h p.invariant.2 (omega arith) (omega arith),
-      rw (p.invariant.3, one_more l p.i h, c.digit-high.ensures, c.digit-low.ensures)
-          (rw (so_many l p.i h, zero-add) at (sets-snoc (take p.i (pairs l)) blank 0 v)),
-    )
+    let v = c.in_ok-byte.field-0 in
+    let good = good_pair l p.i (omega arith) p.invariant.digits v (sym c.byte.ensures ∙ c.in_ok-byte.was) in
+    let m : length (take p.i (pairs l)) ≡ p.i = so_many l p.i (omega arith) in
+    record {
+      digits = good.0;
+      bytes =
+          c.push.ensures
+          ∙ ap (λ (f : Filled). pushed (length blank) f v) p.invariant.bytes
+          ∙ one_more blank (take p.i (pairs l)) v (omega arith)
+          ∙ ap (filled blank) (sym good.1);
+    }
 
 pub returns : goal.returns
 returns c =
     let l = c.args.line.now in
     let p = c.loop-i in
     let m : length (pairs l) ≡ length l / 2 = length_pairs l in
-    ap₂ (λ (n : ℕ) (bs : List ℕ). record { frame = Bytes n; bytes = bs })
-    (sym m)
-    (p.invariant.3 ∙ ap (sets blank 0) (take_all p.i (pairs l) (omega arith)) ∙ sets_front (pairs l) blank (omega arith))
-    ∙ sym (decoding_sound l (sound l (omega arith) (omega arith) (omega arith) (all_done l p.i (omega arith) p.invariant.2)))
+    ap Some (p.invariant.bytes ∙ ap (filled blank) (take_all p.i (pairs l) (omega arith)))
+    ∙ spells_some l (sound l (sym c.is_empty.ensures ∙ c.if-is_empty.false) (omega arith) (omega arith) (all_done l p.i (omega arith) p.invariant.digits))

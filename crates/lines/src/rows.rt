@@ -1,0 +1,73 @@
+// A row of fixed size that fills from the front.
+#![tactic(auto)]
+
+ghost use Rattle.std.specs.Prelude.{◌≡◌, ◌≤◌, ◌==◌, [], take, replicate};
+ghost use Rattle.lines.specs.Rows.{Filled, filled, pushed};
+
+use std::marker::Model;
+
+// The bytes that have come stand at the front, and after them what was there before.
+#[derive(Clone, Copy)]
+pub struct Row<const N: usize> {
+    bytes: [u8; N],
+    count: usize,
+}
+
+impl<const N: usize> Model for Row<N> {
+    ghost Value = { Filled };
+
+    ghost view = { λ r. record { bytes = r.bytes; count = r.count } };
+
+    ghost invariant = { λ r. r.count ≤ N };
+
+    ghost inverse = { λ f. record { bytes = f.bytes; count = f.count } };
+}
+
+impl<const N: usize> Row<N> {
+    // Nothing has come.
+    pub(crate) fn new() -> Self
+        ensures { result ≡ filled (replicate N 0) [] }
+    {
+        Row {
+            bytes: [0; N],
+            count: 0,
+        }
+    }
+
+    pub(crate) fn is_empty(&self) -> bool
+        ensures { result ≡ (self.now.count == 0) }
+    {
+        self.count == 0
+    }
+
+    // The bytes that have come.
+    pub fn as_slice(&self) -> &[u8]
+        ensures { result.now ≡ take self.now.count self.now.bytes }
+    {
+        &self.bytes[..self.count]
+    }
+
+    // The whole row.
+    pub fn whole(&self) -> [u8; N]
+        ensures { result ≡ self.now.bytes }
+    {
+        self.bytes
+    }
+
+    // One byte more; a full row stays as it is.
+    pub(crate) fn push(&mut self, byte: u8)
+        ensures { self.new ≡ pushed N self.old byte }
+    {
+        if self.count < N {
+            self.bytes[self.count] = byte;
+            self.count += 1;
+        }
+    }
+
+    // Nothing has come; what was there stays behind.
+    pub(crate) fn clear(&mut self)
+        ensures { self.new ≡ record self.old { count = 0 } }
+    {
+        self.count = 0;
+    }
+}
