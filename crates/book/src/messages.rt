@@ -23,7 +23,7 @@ fn integrity(good: bool) -> Verdict
     Verdict::unless(!good)
 }
 
-// The lowest place of a right that fits, by this replay counter.
+// The lowest place of a right that fits, by this replay counter; the two travel apart, as in the rules' `fits`.
 fn fitting(rights: &[Right], message: Message, replay: Timestamp) -> Option<usize>
     ensures { result ≡ first (λ r. fits message replay r) rights.now }
 {

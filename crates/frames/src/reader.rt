@@ -31,6 +31,7 @@ fn bytes_at<const N: usize>(bytes: &[u8], at: usize) -> [u8; N]
     found
 }
 
+// Each part below asks for as many bytes as its own widths take, so no struct can carry that fact for all.
 fn id_in(bytes: &[u8]) -> KeyId
     requires { total id_widths ≤ length bytes.now }
     ensures { result ≡ id_from (split id_widths 0 bytes.now) }

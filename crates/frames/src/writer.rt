@@ -24,6 +24,7 @@ fn put<const N: usize>(buffer: &mut [u8], at: usize, spelt: [u8; N])
     buffer[at..at + N].copy_from_slice(&spelt);
 }
 
+// Here too each part asks for its own widths.
 fn put_id(buffer: &mut [u8], kind: u8, id: KeyId)
     requires { total id_widths ≤ length buffer.old }
     ensures { buffer.new ≡ sets buffer.old 0 (join id_widths (id_numbers kind id)) }

@@ -10,7 +10,8 @@ use lib.Dec.{eqb}
 use lib.ListN.{length, take, drop, get_or, length-append, drop_of_length-le}
 use lib.Seq.{drop-cons, take-suc, take_all, length-take-le}
 use Rattle.std.proofs.Math.Bool.{or-true}
-use Rattle.std.specs.Prelude.{None, Some, if◌then◌else◌}
+use Rattle.std.specs.Prelude.{Option, None, Some, if◌then◌else◌}
+use Rattle.std.specs.Simd.{first_chunks}
 use Rattle.figures.specs.Limits.{line_digits}
 use Rattle.lines.specs.Rows.{Filled, filled, pushed}
 use Rattle.lines.specs.Hex.{line_feed, digit_value, is_digit, byte_of, all_digits, pairs, damaged, spelt, decoding, glyph, hexadecimal}
@@ -72,6 +73,24 @@ pairs-at (a ∷ b ∷ l) (suc j) h =
     let e : 2 * suc j ≡ suc (suc (2 * j)) = omega arith in
     let f : 2 * suc j + 1 ≡ suc (suc (2 * j + 1)) = omega arith in
     rw (f, e) (pairs-at l j (omega arith))
+
+-- the characters of the pair j
+pair-at : (l : List ℕ) (n j : ℕ) (d : List ℕ) → j < n → 2 * j + 1 < length l
+    → (get_or (get_or (first_chunks 2 n l) j d) 0 0 ≡ get_or l (2 * j) 0) × (get_or (get_or (first_chunks 2 n l) j d) 1 0 ≡ get_or l (2 * j + 1) 0)
+pair-at l zero j d h m = absurd (omega arith)
+pair-at [] (suc n) j d h m = absurd (omega arith)
+pair-at (a ∷ []) (suc n) j d h m = absurd (omega arith)
+pair-at (a ∷ b ∷ l) (suc n) zero d h m = (refl, refl)
+pair-at (a ∷ b ∷ l) (suc n) (suc j) d h m =
+    let e : 2 * suc j ≡ suc (suc (2 * j)) = omega arith in
+    let f : 2 * suc j + 1 ≡ suc (suc (2 * j + 1)) = omega arith in
+    rw (f, e) (pair-at l n j d (omega arith) (omega arith))
+
+-- so its byte is theirs
+pub pair_byte : (l : List ℕ) (ps : List (List ℕ)) (n j : ℕ) (d : List ℕ) (r : Option ℕ) → ps ≡ first_chunks 2 n l
+    → r ≡ byte_of (get_or (get_or ps j d) 0 0) (get_or (get_or ps j d) 1 0) → j < n → 2 * j + 1 < length l
+    → r ≡ byte_of (get_or l (2 * j) 0) (get_or l (2 * j + 1) 0)
+pair_byte l ps n j d r f e h m = let q = pair-at l n j d h m in e ∙ rw (f, q.0, q.1)
 
 not_both : (s t rest : Bool) (n : ℕ) → (if s && t then Some n else None) ≡ None → (s && (t && rest)) ≡ false
 not_both true true rest n h = cc

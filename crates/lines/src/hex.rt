@@ -39,8 +39,10 @@ pub fn decode(line: &[u8]) -> Option<Row<FRAME_BYTES>>
         return None;
     }
     let mut bytes = Row::new();
-    for i in 0..line.len() / 2 {
-        bytes.push(byte(line[2 * i], line[2 * i + 1])?);
+    let (pairs, _) = line.as_chunks::<2>();
+    for pair in pairs {
+        let [high, low] = *pair;
+        bytes.push(byte(high, low)?);
     }
     Some(bytes)
 }

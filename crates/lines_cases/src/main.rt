@@ -6,7 +6,7 @@ use lines::{Fed, State};
 use std::io;
 use std::io::{BufReader, BufWriter, Read, Write};
 
-// One character, and what it prints.
+// One character, and what it prints. Two functions of an output and a state: a struct for both would be no shorter.
 fn step<W: Write>(out: &mut W, state: State, c: u8) -> io::Result<State> {
     let mut text = [0u8; REPLY_LINE];
     let Fed { state, made, .. } = lines::feed(state, &[c], &mut text);

@@ -4,8 +4,8 @@ use Rattle.lines.specs.Rows.{filled}
 use Rattle.lines.specs.Hex.{all_digits, pairs, blank}
 use Rattle.lines.proofs.hex.decode.Given as goal
 
-abbrev pub invariant-loop-i : goal.invariant-loop-i
-invariant-loop-i l = record {
-  digits : all_digits (drop (2 * l.i) l.line) ≡ all_digits l.line;
-  bytes : l.bytes ≡ filled blank (take l.i (pairs l.line));
+abbrev pub invariant-loop-pair : goal.invariant-loop-pair
+invariant-loop-pair l = record {
+  digits : all_digits (drop (2 * l.pair-index) l.line) ≡ all_digits l.line;
+  bytes : l.bytes ≡ filled blank (take l.pair-index (pairs l.line));
 }
