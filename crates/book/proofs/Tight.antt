@@ -12,6 +12,8 @@ use Rattle.book.specs.Kept.{Left}
 use Rattle.book.proofs.Book.empty.Reads as empty
 use Rattle.book.proofs.Book.call.Reads as call
 use Rattle.book.proofs.replies.reply_bytes.Reads as reply-bytes
+use Rattle.book.proofs.kept.RightFromKeptRight.from.Reads as right-from-kept
+use Rattle.book.proofs.kept.KeptRightFromRight.from.Reads as kept-from-right
 use Rattle.book.proofs.kept.KeptBook.empty.Reads as kept-empty
 use Rattle.book.proofs.kept.KeptBook.call.Reads as kept-call
 
@@ -43,6 +45,12 @@ pub left_once : (k k' : KeptBook) (u u' r r' : List ℕ) (l : Left) → record {
 left_once k k' u u' r r' l p q =
     let e = p ∙ sym q in
     (ap (λ (x : Left). x.book) e, ap (λ (x : Left). x.key) e, ap (λ (x : Left). x.reply) e)
+
+pub RightFromKeptRight-from_once : (κs : Lfts 0) (a : _) (r r' : _) (s s' : _) → right-from-kept.Post κs a r s → right-from-kept.Post κs a r' s' → r ≡ r'
+RightFromKeptRight-from_once κs a r r' s s' p q = p ∙ sym q
+
+pub KeptRightFromRight-from_once : (κs : Lfts 0) (a : _) (r r' : _) (s s' : _) → kept-from-right.Post κs a r s → kept-from-right.Post κs a r' s' → r ≡ r'
+KeptRightFromRight-from_once κs a r r' s s' p q = p ∙ sym q
 
 pub KeptBook-empty_once : (κs : Lfts 0) (a : _) (r r' : _) (s s' : _) → kept-empty.Post κs a r s → kept-empty.Post κs a r' s' → r ≡ r'
 KeptBook-empty_once κs a r r' s s' p q = p ∙ sym q

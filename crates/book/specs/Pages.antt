@@ -1,7 +1,6 @@
 -- The book and a call's answer, as the rules speak of them.
-use Rattle.std.specs.Prelude.{ℕ, ◌<◌, ◌≡◌, List, length}
+use Rattle.std.specs.Prelude.{ℕ, ◌<◌, List, length}
 use Rattle.places.specs.Words.{put}
-use Rattle.figures.specs.Limits.{key_bytes}
 use Rattle.rules.specs.Pages.{Pages}
 use Rattle.rules.specs.Calls.{After}
 use Rattle.book.specs.Types.{Book, Called, Places, Some, Tokens, Key, Right, Shown}
@@ -25,8 +24,3 @@ shown place right key purse = record { place = place; account = right.account; p
 pub record Held (b : Book) (p : Places) : Type 0 where
   pub key : p.key < length b.keys
   pub right : p.right < length b.rights
-
--- so, and a lent buffer of this length takes a key
-pub record Ready (b : Book) (p : Places) (n : ℕ) : Type 0 where
-  pub held : Held b p
-  pub room : n ≡ key_bytes

@@ -20,7 +20,7 @@ use places::Verdict;
 
 impl Book {
     // Without the key of an ID.
-    #[tactic(auto, unfolding(places::specs::Words::put, figures::specs::Keys::free_key, figures::specs::Names::no_id))]
+    #[tactic(auto, unfolding(rules::specs::Pages::key_at, places::specs::Words::put, figures::specs::Keys::free_key, figures::specs::Names::no_id))]
     fn without_key(self, id: KeyId) -> [Key; KEY_PLACES]
         ensures { result ≡ put (key_at (pages self) id) free_key self.keys }
     {
@@ -55,7 +55,7 @@ impl Book {
         }
     }
 
-    #[tactic(auto, unfolding(rules::specs::Deletions::report, rules::specs::Deletions::report_refusals, rules::specs::Deletions::reportable))]
+    #[tactic(auto, unfolding(rules::specs::Deletions::report, rules::specs::Deletions::report_refusals, rules::specs::Deletions::reportable, rules::specs::Pages::key_at, rules::specs::Pages::right_at, rules::specs::Calls::unless))]
     pub(crate) fn report(self, name: RightName) -> Called
         ensures { (u : List ℕ) → after result u ≡ report (pages self) u name }
     {
@@ -70,6 +70,7 @@ impl Book {
         self.unchanged(Reply::Reported(shown))
     }
 
+    #[tactic(auto, unfolding(rules::specs::Deletions::delete, rules::specs::Deletions::delete_refusals, rules::specs::Deletions::report_refusals, rules::specs::Deletions::reportable, rules::specs::Deletions::dropped, rules::specs::Pages::right_at, rules::specs::Pages::user_purse, rules::specs::Calls::unless, places::specs::Words::put, figures::specs::Rights::free_right, figures::specs::Names::no_id))]
     pub(crate) fn delete(self, name: RightName) -> Called
         ensures { (u : List ℕ) → after result u ≡ delete (pages self) u name }
     {
@@ -88,6 +89,7 @@ impl Book {
     }
 
     // A load with SPE 0A.
+    #[tactic(auto, unfolding(rules::specs::Deletions::erase, rules::specs::Deletions::erase_refusals, rules::specs::Deletions::erased, rules::specs::Pages::key_at, rules::specs::Pages::user_purse, rules::specs::Calls::unless))]
     pub(crate) fn erase(self, load: Load) -> Called
         ensures { (u : List ℕ) → after result u ≡ erase (pages self) u load }
     {

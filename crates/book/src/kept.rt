@@ -14,7 +14,7 @@ use figures::limits::{KEY_PLACES, REPLY_BYTES, RIGHT_PLACES};
 use figures::names::{RightName, Tokens, TrafficKeys};
 use figures::rights::Right;
 
-// A right. The figure that the mark does not name is 0.
+// A right, as C has it: `held` and `counted` are marks, since no enum crosses. The figure that the mark does not name is 0.
 #[repr(C)]
 #[derive(Clone, Copy)]
 pub struct KeptRight {
@@ -75,24 +75,23 @@ impl From<Right> for KeptRight {
     }
 }
 
-impl From<KeptBook> for Book {
-    ghost from_gives = { λ k b. pages b ≡ opened k };
-
-    fn from(kept: KeptBook) -> Book {
-        let keys = kept.keys;
-        let rights = kept.rights.map(Right::from);
+impl KeptBook {
+    // No `From` for all: a book comes only from the empty one by calls, so what opens one and what keeps one are private.
+    fn book(self) -> Book
+        ensures { pages result ≡ opened self }
+    {
+        let keys = self.keys;
+        let rights = self.rights.map(Right::from);
         Book {
             keys,
             rights,
-            purse: kept.purse,
+            purse: self.purse,
         }
     }
-}
 
-impl From<Book> for KeptBook {
-    ghost from_gives = { λ b k. k ≡ kept (pages b) };
-
-    fn from(book: Book) -> KeptBook {
+    fn of(book: Book) -> KeptBook
+        ensures { result ≡ kept (pages book) }
+    {
         let keys = book.keys;
         let rights = book.rights.map(KeptRight::from);
         KeptBook {
@@ -101,13 +100,11 @@ impl From<Book> for KeptBook {
             purse: book.purse,
         }
     }
-}
 
-impl KeptBook {
     pub fn empty() -> KeptBook
         ensures { result ≡ kept empty_book }
     {
-        KeptBook::from(Book::empty())
+        KeptBook::of(Book::empty())
     }
 
     // A byte string, the lent key buffer and the lent reply.
@@ -115,8 +112,8 @@ impl KeptBook {
         ensures { record { book = result; key = key.new; reply = reply.new }
             ≡ leaves (call (opened self) frame.now key.old) }
     {
-        let called = Book::from(self).call(frame, key);
+        let called = self.book().call(frame, key);
         *reply = reply_bytes(called.reply);
-        KeptBook::from(called.book)
+        KeptBook::of(called.book)
     }
 }

@@ -8,9 +8,7 @@ mod lookups;
 mod messages;
 pub mod replies;
 
-ghost use Rattle.std.specs.Prelude.{◌≡◌, not, eqb, length};
-ghost use Rattle.places.specs.Words.{failed};
-ghost use Rattle.figures.specs.Limits.{key_bytes};
+ghost use Rattle.std.specs.Prelude.{◌≡◌};
 ghost use Rattle.rules.specs.Pages.{empty_book};
 ghost use Rattle.rules.specs.Rules.{act, call};
 ghost use Rattle.book.specs.Types.{Refused};
@@ -23,7 +21,6 @@ use figures::replies::{Refusal, Reply};
 use figures::rights::{FREE_RIGHT, Right};
 use frames::Frame;
 use frames::reader::read;
-use places::Verdict;
 
 #[derive(Clone, Copy)]
 pub struct Book {
@@ -37,13 +34,6 @@ pub struct Book {
 pub struct Called {
     pub book: Book,
     pub reply: Reply,
-}
-
-// Fails where the lent key buffer does not have a key's length.
-fn room(lent: usize) -> Verdict
-    ensures { failed result ≡ not (eqb lent key_bytes) }
-{
-    Verdict::unless(lent != KEY_BYTES)
 }
 
 impl Book {
@@ -62,10 +52,7 @@ impl Book {
     fn unchanged(self, reply: Reply) -> Called
         ensures { result ≡ record { book = self; reply = reply } }
     {
-        Called {
-            book: self,
-            reply: reply,
-        }
+        Called { book: self, reply }
     }
 
     fn refused(self, why: Refusal) -> Called
@@ -75,8 +62,8 @@ impl Book {
     }
 
     // What a frame of each kind does.
-    fn act(self, frame: Frame, bytes: [u8; KEY_BYTES], key: &mut [u8]) -> Called
-        requires { length key.old ≡ key_bytes }
+    #[tactic(auto, unfolding(rules::specs::Rules::act))]
+    fn act(self, frame: Frame, bytes: [u8; KEY_BYTES], key: &mut [u8; KEY_BYTES]) -> Called
         ensures { after result key.new ≡ act (pages self) key.old frame bytes }
     {
         match frame {
@@ -88,10 +75,11 @@ impl Book {
     }
 
     // A byte string and the lent key buffer.
+    #[tactic(auto, unfolding(rules::specs::Rules::call, rules::specs::Rules::buffer_refusals, rules::specs::Rules::taken, rules::specs::Calls::unless))]
     pub fn call(self, frame: &[u8], key: &mut [u8]) -> Called
         ensures { after result key.new ≡ call (pages self) frame.now key.old }
     {
-        let Verdict::Passed = room(key.len()) else {
+        let Some(key) = key.as_mut_array::<KEY_BYTES>() else {
             return self.refused(Refusal::BufferLength);
         };
         let read = read(frame);

@@ -8,12 +8,10 @@ ghost use Rattle.book.specs.Stored.{stored, over};
 
 use crate::lookups::{Places, held_in, place_of, room_for, shown_of};
 use crate::{Book, Called};
-use figures::keys::FREE_KEY;
 use figures::limits::KEY_BYTES;
 use figures::loads::{Load, Settled};
 use figures::policies::{is_deletion, policy};
 use figures::replies::{Refusal, Reply};
-use figures::rights::FREE_RIGHT;
 use places::Verdict;
 
 // Fails where the ID is not held and no key is carried.
@@ -39,7 +37,7 @@ impl Book {
     }
 
     // The load's key and right go to their places. The key is the one held before, or a free one.
-    #[tactic(auto, unfolding(places::specs::Words::put))]
+    #[tactic(auto, unfolding(places::specs::Words::put, figures::specs::Keys::free_key, figures::specs::Names::no_id))]
     fn stored(
         self,
         load: Load,
@@ -51,7 +49,7 @@ impl Book {
         requires { Held self places }
         ensures { result ≡ stored self load bytes held places settled }
     {
-        let before = held_in(&self.keys, held, FREE_KEY);
+        let before = held_in(&self.keys, held);
         let key = before.loaded(load.name.id, load.flags.key, bytes);
         let right = load.right(settled.account);
         let purse = settled.purse;
@@ -66,7 +64,8 @@ impl Book {
         }
     }
 
-    // A load other than 0A. 01, The shape of each place: let .. else, and no `?`, returns each refusal with the book unchanged.
+    // A load other than 0A. 01, The shape of each place: let .. else returns each refusal with the book unchanged, not `?`.
+    #[tactic(auto, unfolding(rules::specs::Loads::store, rules::specs::Loads::load_refusals, rules::specs::Loads::loadable, rules::specs::Pages::key_at, rules::specs::Pages::right_at, rules::specs::Pages::free_key_at, rules::specs::Pages::free_right_at, rules::specs::Pages::key_room, rules::specs::Pages::right_room, rules::specs::Pages::right_in, rules::specs::Pages::purse_of, rules::specs::Loads::account_before, rules::specs::Loads::over_limit, rules::specs::Loads::over_reply, rules::specs::Calls::unless))]
     fn store(self, load: Load, bytes: [u8; KEY_BYTES]) -> Called
         ensures { (u : List ℕ) → after result u ≡ store (pages self) u load bytes }
     {
@@ -91,7 +90,7 @@ impl Book {
         let Some(right_place) = room_for(&self.rights, right) else {
             return self.refused(Refusal::Full);
         };
-        let before = held_in(&self.rights, right, FREE_RIGHT);
+        let before = held_in(&self.rights, right);
         let Some(settled) = load.settled(before.account, self.purse) else {
             return self.over(key, right);
         };

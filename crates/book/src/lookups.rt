@@ -7,10 +7,10 @@ ghost use Rattle.book.specs.Pages.{pages, shown};
 
 use crate::Book;
 use figures::held::Held;
-use figures::keys::{FREE_KEY, Key};
+use figures::keys::Key;
 use figures::names::Tokens;
 use figures::replies::Shown;
-use figures::rights::{FREE_RIGHT, Right};
+use figures::rights::Right;
 
 // The place of a key, and that of a right.
 #[derive(Clone, Copy)]
@@ -42,10 +42,13 @@ pub(crate) fn room_for<P: Held>(places: &[P], held: Option<usize>) -> Option<usi
 
 // What a place holds; a free one where there is no such place.
 #[tactic(auto, unfolding(places::specs::Words::at))]
-pub(crate) fn held_in<T: Copy>(places: &[T], place: Option<usize>, free: T) -> T
-    ensures { result ≡ at free place places.now }
+pub(crate) fn held_in<P: Held>(places: &[P], place: Option<usize>) -> P
+    ensures { result ≡ at P.blank place places.now }
 {
-    place.and_then(|i| places.get(i)).copied().unwrap_or(free)
+    place
+        .and_then(|i| places.get(i))
+        .copied()
+        .unwrap_or(P::free())
 }
 
 // What a reply shows of a right in its place and of its key.
@@ -66,8 +69,8 @@ impl Book {
     pub(crate) fn as_held(&self, key: Option<usize>, place: usize) -> Shown
         ensures { result ≡ as_held (pages self.now) key (Some place) }
     {
-        let right = held_in(&self.rights, Some(place), FREE_RIGHT);
-        let held = held_in(&self.keys, key, FREE_KEY);
+        let right = held_in(&self.rights, Some(place));
+        let held = held_in(&self.keys, key);
         shown_of(place, right, held, self.purse)
     }
 }

@@ -1,15 +1,15 @@
 // Short term messages: 01, What a short term message does.
 ghost use Rattle.std.specs.Prelude.{◌≡◌, ◌≤◌, length, not};
 ghost use Rattle.places.specs.Words.{failed, first};
-ghost use Rattle.figures.specs.Limits.{key_bytes};
 ghost use Rattle.figures.specs.Rights.{fits};
 ghost use Rattle.rules.specs.Messages.{grant, message};
 ghost use Rattle.book.specs.Types.{Some};
-ghost use Rattle.book.specs.Pages.{pages, after, Ready};
+ghost use Rattle.book.specs.Pages.{pages, after, Held};
 ghost use Rattle.book.specs.Choices.{pays, payer_from};
 
 use crate::lookups::{Places, place_of, shown_of};
 use crate::{Book, Called};
+use figures::limits::KEY_BYTES;
 use figures::loads::Message;
 use figures::names::{Timestamp, Tokens};
 use figures::replies::{Refusal, Reply};
@@ -23,14 +23,15 @@ fn integrity(good: bool) -> Verdict
     Verdict::unless(!good)
 }
 
-// The lowest place of a right that fits, by this replay counter; the two travel apart, as in the rules' `fits`.
+// The lowest place of a right that fits, by this replay counter. The definition `fits`, which each clause here cites, takes the two one by one.
 fn fitting(rights: &[Right], message: Message, replay: Timestamp) -> Option<usize>
     ensures { result ≡ first (λ r. fits message replay r) rights.now }
 {
     rights.iter().position(|right| right.fits(message, replay))
 }
 
-// The lowest place of a right that fits and can pay from this purse.
+// The lowest place of a right that fits and can pay from this purse. Two tests, each one call of `position`: one function would take a closure
+// and be that call.
 fn paying(rights: &[Right], message: Message, replay: Timestamp, purse: Tokens) -> Option<usize>
     ensures { result ≡ first (λ r. pays message replay purse r) rights.now }
 {
@@ -50,8 +51,8 @@ impl Book {
     }
 
     // The key in its place is handed out, and the right in its place is charged.
-    fn grant(self, places: Places, ts: Timestamp, key: &mut [u8]) -> Called
-        requires { Ready self places (length key.old) }
+    fn grant(self, places: Places, ts: Timestamp, key: &mut [u8; KEY_BYTES]) -> Called
+        requires { Held self places }
         ensures { after result key.new ≡ grant (pages self) (Some places.key) (Some places.right) ts }
     {
         let held = self.keys[places.key];
@@ -63,7 +64,8 @@ impl Book {
         book.keys[places.key] = next;
         book.rights[places.right] = charged;
         book.purse = purse;
-        key.copy_from_slice(&held.bytes);
+        let bytes = held.bytes;
+        *key = bytes;
         let shown = shown_of(places.right, charged, next, purse);
         Called {
             book,
@@ -71,8 +73,8 @@ impl Book {
         }
     }
 
-    pub(crate) fn message(self, frame: Message, key: &mut [u8]) -> Called
-        requires { length key.old ≡ key_bytes }
+    #[tactic(auto, unfolding(rules::specs::Messages::message, rules::specs::Messages::message_refusals, rules::specs::Pages::key_at, rules::specs::Calls::unless))]
+    pub(crate) fn message(self, frame: Message, key: &mut [u8; KEY_BYTES]) -> Called
         ensures { after result key.new ≡ message (pages self) key.old frame }
     {
         let Verdict::Passed = integrity(frame.good) else {

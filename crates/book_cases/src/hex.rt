@@ -19,7 +19,7 @@ impl fmt::Display for Hex<'_> {
     }
 }
 
-// The value of a digit. That of `lines` lies above the book, which this program tries alone.
+// The value of a digit, told apart from `lines`: this program tries the book alone, and is no check of it by its own reader.
 fn digit(c: u8) -> Option<u8>
     ensures { IfSome result (λ d. d < 16) }
 {

@@ -1,9 +1,23 @@
 // What a reply line says, in words: 01, Replies.
+use figures::limits::NO_PLACE;
+use figures::replies::Refusal;
 use lines::hex::decode;
 use std::fmt;
 
-// What stands for a place where the reply has none.
-const NO_PLACE: u8 = 0xFF;
+// Every refusal, to be found by its number.
+const REFUSALS: [Refusal; 11] = [
+    Refusal::BufferLength,
+    Refusal::Unreadable,
+    Refusal::Policy,
+    Refusal::Fields,
+    Refusal::EmptyInterval,
+    Refusal::UnknownId,
+    Refusal::Full,
+    Refusal::Integrity,
+    Refusal::NoFit,
+    Refusal::NoFunds,
+    Refusal::NotHeld,
+];
 
 // What a code says.
 #[derive(Clone, Copy)]
@@ -11,22 +25,12 @@ pub(crate) enum Code {
     Done,
     Granted,
     Held,
-    KeyBuffer,
-    NoFrame,
-    NoSpe,
-    NotZero,
-    Interval,
-    IdNotHeld,
-    NoPlace,
     OverLimit,
-    BadMark,
-    NoFit,
-    NoPay,
-    NotHeld,
+    Refused(Refusal),
 }
 
 // A number that is no code of the book.
-#[derive(Clone, Copy)]
+#[derive(Clone, Copy, Debug, PartialEq, Eq)]
 pub(crate) struct NoCode;
 
 impl TryFrom<u8> for Code {
@@ -37,19 +41,13 @@ impl TryFrom<u8> for Code {
             0x00 => Ok(Code::Done),
             0x01 => Ok(Code::Granted),
             0x02 => Ok(Code::Held),
-            0x10 => Ok(Code::KeyBuffer),
-            0x11 => Ok(Code::NoFrame),
-            0x12 => Ok(Code::NoSpe),
-            0x13 => Ok(Code::NotZero),
-            0x14 => Ok(Code::Interval),
-            0x15 => Ok(Code::IdNotHeld),
-            0x16 => Ok(Code::NoPlace),
             0x17 => Ok(Code::OverLimit),
-            0x18 => Ok(Code::BadMark),
-            0x19 => Ok(Code::NoFit),
-            0x1A => Ok(Code::NoPay),
-            0x1B => Ok(Code::NotHeld),
-            _ => Err(NoCode),
+            _ => REFUSALS
+                .iter()
+                .copied()
+                .find(|why| u8::from(*why) == number)
+                .map(Code::Refused)
+                .ok_or(NoCode),
         }
     }
 }
@@ -60,18 +58,18 @@ impl fmt::Display for Code {
             Code::Done => "done",
             Code::Granted => "granted",
             Code::Held => "held",
-            Code::KeyBuffer => "the key buffer is not 16 bytes long",
-            Code::NoFrame => "not a frame",
-            Code::NoSpe => "no such SPE here",
-            Code::NotZero => "a field must be zero",
-            Code::Interval => "TS low is not below TS high",
-            Code::IdNotHeld => "the ID is not held",
-            Code::NoPlace => "no place is free",
             Code::OverLimit => "a limit would be passed",
-            Code::BadMark => "the integrity mark is bad",
-            Code::NoFit => "no right fits",
-            Code::NoPay => "some right fits, none can pay",
-            Code::NotHeld => "the right or ID is not held",
+            Code::Refused(Refusal::BufferLength) => "the key buffer is not 16 bytes long",
+            Code::Refused(Refusal::Unreadable) => "not a frame",
+            Code::Refused(Refusal::Policy) => "no such SPE here",
+            Code::Refused(Refusal::Fields) => "a field must be zero",
+            Code::Refused(Refusal::EmptyInterval) => "TS low is not below TS high",
+            Code::Refused(Refusal::UnknownId) => "the ID is not held",
+            Code::Refused(Refusal::Full) => "no place is free",
+            Code::Refused(Refusal::Integrity) => "the integrity mark is bad",
+            Code::Refused(Refusal::NoFit) => "no right fits",
+            Code::Refused(Refusal::NoFunds) => "some right fits, none can pay",
+            Code::Refused(Refusal::NotHeld) => "the right or ID is not held",
         })
     }
 }
@@ -98,7 +96,7 @@ impl Reply {
         let b = decode(digits)?.whole();
         Some(Reply {
             code: Code::try_from(b[0]),
-            place: (b[1] != NO_PLACE).then_some(b[1]),
+            place: (usize::from(b[1]) != NO_PLACE).then_some(b[1]),
             value: u32::from_be_bytes([b[2], b[3], b[4], b[5]]),
             purse: u32::from_be_bytes([b[6], b[7], b[8], b[9]]),
             replay: u32::from_be_bytes([b[10], b[11], b[12], b[13]]),

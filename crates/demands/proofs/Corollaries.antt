@@ -241,9 +241,9 @@ module _ (b : Pages) (x : List ℕ) (m : Message) (e : (reading x).frame ≡ Ok 
       this_or_other : (eqb p g.p ≡ true) ⊎ (eqb p g.p ≡ false) → get_or a.book.rights p free_right ≡ get_or b.rights p free_right
       this_or_other (inl w) = absurd (cannot_pay n g.pays (subst (λ (k : ℕ). (get_or b.rights k free_right).account ≡ Counted n) (eqb-true p g.p w) h) q)
       this_or_other (inr w) = g.nothing_else.rights.others p (apart p g.p w)
-  exhausted_in (loaded c r v) = let z : ◌≡◌ {A = ℕ} 0 1 = cc (not_this r.read) in absurd (omega arith)
-  exhausted_in (erased c r v) = let z : ◌≡◌ {A = ℕ} 0 1 = cc (not_this r.read) in absurd (omega arith)
-  exhausted_in (deleted c r v) = let z : ◌≡◌ {A = ℕ} 0 1 = cc (not_this r.read) in absurd (omega arith)
+  exhausted_in (loaded c r v) = cc (not_this r.read)
+  exhausted_in (erased c r v) = cc (not_this r.read)
+  exhausted_in (deleted c r v) = cc (not_this r.read)
 
 pub exhausted_stays : ExhaustedStays
 exhausted_stays z b s c m e p n h q = exhausted_in b c.frame m e p n h q (every_call z b s c.frame c.buffer)

@@ -8,7 +8,8 @@ use Rattle.figures.proofs.accounts.Account.can_pay.Reads as Account-can-pay
 use Rattle.figures.proofs.accounts.Account.charged.Reads as Account-charged
 use Rattle.figures.proofs.accounts.Account.spend.Reads as Account-spend
 use Rattle.figures.proofs.accounts.Account.counter.Reads as Account-counter
-use Rattle.figures.proofs.keys.Key.free.Reads as Key-free
+use Rattle.figures.proofs.keys.KeyHeld.free.Reads as Key-free
+use Rattle.figures.proofs.keys.KeyHeld.is_held.Reads as Key-is-held
 use Rattle.figures.proofs.keys.KeyHeld.is_named.Reads as Key-is-named
 use Rattle.figures.proofs.keys.Key.granted.Reads as Key-granted
 use Rattle.figures.proofs.keys.Key.loaded.Reads as Key-loaded
@@ -29,7 +30,8 @@ use Rattle.figures.proofs.policies.policy.Reads as policy
 use Rattle.figures.proofs.policies.count_limit.Reads as count-limit
 use Rattle.figures.proofs.policies.purse_limit.Reads as purse_limit
 use Rattle.figures.proofs.replies.U8FromRefusal.from.Reads as U8-from-Refusal
-use Rattle.figures.proofs.rights.Right.free.Reads as Right-free
+use Rattle.figures.proofs.rights.RightHeld.free.Reads as Right-free
+use Rattle.figures.proofs.rights.RightHeld.is_held.Reads as Right-is-held
 use Rattle.figures.proofs.rights.RightHeld.is_named.Reads as Right-is-named
 use Rattle.figures.proofs.rights.Right.is_of.Reads as Right-is-of
 use Rattle.figures.proofs.rights.Right.fits.Reads as Right-fits
@@ -52,11 +54,14 @@ Account-spend_once κs a r r' s s' p q = p ∙ sym q
 pub Account-counter_once : (κs : Lfts 0) (a : _) (r r' : _) (s s' : _) → Account-counter.Post κs a r s → Account-counter.Post κs a r' s' → r ≡ r'
 Account-counter_once κs a r r' s s' p q = p ∙ sym q
 
-pub Key-free_once : (κs : Lfts 0) (a : _) (r r' : _) (s s' : _) → Key-free.Post κs a r s → Key-free.Post κs a r' s' → r ≡ r'
-Key-free_once κs a r r' s s' p q = p ∙ sym q
+pub KeyHeld-free_once : (κs : Lfts 0) (a : _) (r r' : _) (s s' : _) → Key-free.Post κs a r s → Key-free.Post κs a r' s' → r ≡ r'
+KeyHeld-free_once κs a r r' s s' p q = p ∙ sym q
 
 pub KeyHeld-is_named_once : (κs : Lfts 0) (a : _) (r r' : _) (s s' : _) → Key-is-named.Post κs a r s → Key-is-named.Post κs a r' s' → r ≡ r'
 KeyHeld-is_named_once κs a r r' s s' p q = p ∙ sym q
+
+pub KeyHeld-is_held_once : (κs : Lfts 0) (a : _) (r r' : _) (s s' : _) → Key-is-held.Post κs a r s → Key-is-held.Post κs a r' s' → r ≡ r'
+KeyHeld-is_held_once κs a r r' s s' p q = p ∙ sym q
 
 pub Key-granted_once : (κs : Lfts 0) (a : _) (r r' : _) (s s' : _) → Key-granted.Post κs a r s → Key-granted.Post κs a r' s' → r ≡ r'
 Key-granted_once κs a r r' s s' p q = p ∙ sym q
@@ -124,11 +129,14 @@ purse_limit_once κs a r r' s s' p q = p ∙ sym q
 pub U8FromRefusal-from_once : (κs : Lfts 0) (a : _) (r r' : _) (s s' : _) → U8-from-Refusal.Post κs a r s → U8-from-Refusal.Post κs a r' s' → r ≡ r'
 U8FromRefusal-from_once κs a r r' s s' p q = p ∙ sym q
 
-pub Right-free_once : (κs : Lfts 0) (a : _) (r r' : _) (s s' : _) → Right-free.Post κs a r s → Right-free.Post κs a r' s' → r ≡ r'
-Right-free_once κs a r r' s s' p q = p ∙ sym q
+pub RightHeld-free_once : (κs : Lfts 0) (a : _) (r r' : _) (s s' : _) → Right-free.Post κs a r s → Right-free.Post κs a r' s' → r ≡ r'
+RightHeld-free_once κs a r r' s s' p q = p ∙ sym q
 
 pub RightHeld-is_named_once : (κs : Lfts 0) (a : _) (r r' : _) (s s' : _) → Right-is-named.Post κs a r s → Right-is-named.Post κs a r' s' → r ≡ r'
 RightHeld-is_named_once κs a r r' s s' p q = p ∙ sym q
+
+pub RightHeld-is_held_once : (κs : Lfts 0) (a : _) (r r' : _) (s s' : _) → Right-is-held.Post κs a r s → Right-is-held.Post κs a r' s' → r ≡ r'
+RightHeld-is_held_once κs a r r' s s' p q = p ∙ sym q
 
 pub Right-is_of_once : (κs : Lfts 0) (a : _) (r r' : _) (s s' : _) → Right-is-of.Post κs a r s → Right-is-of.Post κs a r' s' → r ≡ r'
 Right-is_of_once κs a r r' s s' p q = p ∙ sym q

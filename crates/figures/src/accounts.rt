@@ -12,7 +12,7 @@ pub enum Account {
     Purse(Tokens),
 }
 
-// What a load brings: traffic keys to the right's counter, or tokens to the purse.
+// What a load brings: traffic keys to the right's counter, or tokens to the purse. No account: nothing can pay from it.
 #[derive(Clone, Copy)]
 pub enum Credit {
     ToCounter(TrafficKeys),
@@ -20,7 +20,7 @@ pub enum Credit {
 }
 
 impl Credit {
-    // The one place where an amount becomes traffic keys or tokens.
+    // The one place where an amount becomes traffic keys or tokens. No `From`: it takes two arguments.
     #[tactic(auto, unfolding(crate::specs::Accounts::credit_of))]
     pub fn of(spe: u8, amount: u32) -> Credit
         ensures { result ≡ credit_of spe amount }

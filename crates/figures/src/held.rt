@@ -10,9 +10,15 @@ pub trait Held: Copy {
     // The place is not free.
     ghost taken: { Self → Bool };
 
+    // What a free place holds.
+    ghost blank: { Self };
+
     fn is_named(self, name: Self::Name) -> bool
         ensures { result ≡ named name self };
 
     fn is_held(self) -> bool
         ensures { result ≡ taken self };
+
+    fn free() -> Self
+        ensures { result ≡ blank };
 }

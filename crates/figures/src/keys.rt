@@ -30,6 +30,8 @@ impl Held for Key {
 
     ghost taken = { λ k. k.held };
 
+    ghost blank = { free_key };
+
     #[tactic(auto, unfolding(crate::specs::Names::same_id))]
     fn is_named(self, id: KeyId) -> bool {
         self.held && self.id == id
@@ -38,16 +40,14 @@ impl Held for Key {
     fn is_held(self) -> bool {
         self.held
     }
+
+    #[tactic(auto, unfolding(crate::specs::Keys::free_key, crate::specs::Names::no_id))]
+    fn free() -> Key {
+        FREE_KEY
+    }
 }
 
 impl Key {
-    #[tactic(auto, unfolding(crate::specs::Keys::free_key, crate::specs::Names::no_id))]
-    pub fn free() -> Key
-        ensures { result ≡ free_key }
-    {
-        FREE_KEY
-    }
-
     // The key after a grant: a live one moves its replay counter.
     #[tactic(auto, unfolding(crate::specs::Keys::granted_key))]
     pub fn granted(self, ts: Timestamp) -> Key
@@ -60,7 +60,8 @@ impl Key {
         }
     }
 
-    // The key after a load: held under the ID, with the load's bytes where it carries some.
+    // The key after a load: held under the ID, with the load's bytes where it carries some. 01, The shape of each place: the bytes travel
+    // in an array beside the frame, whose flag says whether they count.
     #[tactic(auto, unfolding(crate::specs::Keys::loaded_key))]
     pub fn loaded(self, id: KeyId, carried: bool, bytes: [u8; KEY_BYTES]) -> Key
         ensures { result ≡ loaded_key id carried bytes self }

@@ -19,7 +19,7 @@ pub const LIVE_COUNTED: u8 = 0x0C;
 
 pub const PLAYBACK_COUNTED: u8 = 0x0D;
 
-// The SPE of a free place: no SPE of the paper.
+// The SPE of a free place: no SPE of the paper. It is what the definition `free_right` has there.
 pub const NO_SPE: u8 = 0xFF;
 
 // 01, Rights, the table's limits.

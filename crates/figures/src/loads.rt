@@ -9,7 +9,7 @@ use crate::policies::{count_limit, is_counted, purse_limit};
 use crate::rights::Right;
 use places::Verdict;
 
-// Flag bit 0: add, and not set. Flag bit 1: the key is present.
+// Flag bit 0: add, and not set. Flag bit 1: the key is present. Bools beside the amount and the key bytes: 01, The shape of each place.
 #[derive(Clone, Copy)]
 pub struct Flags {
     pub add: bool,
@@ -53,6 +53,7 @@ fn summed(limit: u32, add: bool, before: u32, amount: u32) -> Option<u32>
 
 impl Load {
     // The account of the right and the purse after this load, where no limit is passed.
+    #[tactic(auto, unfolding(crate::specs::Loads::settled, crate::specs::Loads::total_of))]
     pub fn settled(self, held: Account, purse: Tokens) -> Option<Settled>
         ensures { result ≡ settled self held purse }
     {
@@ -76,7 +77,7 @@ impl Load {
         }
     }
 
-    // The right that this load leaves, with the account settled.
+    // The right that this load leaves, with the account settled. No `From`: it takes two arguments.
     #[tactic(auto, unfolding(crate::specs::Loads::loaded_right))]
     pub fn right(self, account: Account) -> Right
         ensures { result ≡ loaded_right self account }

@@ -45,6 +45,7 @@ pub struct RightName {
     pub spe: u8,
 }
 
+// The ID of a free place, as the definition `no_id` has it.
 pub const NO_ID: KeyId = KeyId {
     domain: KeyDomain(0, 0, 0),
     group: 0,

@@ -10,7 +10,8 @@ use crate::limits::{
 use crate::names::{Tokens, TrafficKeys};
 use places::Verdict;
 
-// An SPE stays a byte: 01, The shape of each place, has numbers in a frame's fields, and a frame may bring any byte. Each test is a definition's.
+// An SPE stays a byte: 01, The shape of each place, has numbers in a frame's fields, and a frame may bring any byte. Each test below promises a
+// definition that the reader signs, so they are not one.
 #[tactic(auto, unfolding(crate::specs::Policies::is_live))]
 pub fn is_live(spe: u8) -> bool
     ensures { result ≡ is_live spe }

@@ -6,7 +6,7 @@ use crate::accounts::Account;
 use crate::names::{Timestamp, Tokens};
 
 // The refusals that show nothing beside their code.
-#[derive(Clone, Copy)]
+#[derive(Clone, Copy, Debug, PartialEq, Eq)]
 pub enum Refusal {
     BufferLength,
     Unreadable,

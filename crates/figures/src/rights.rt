@@ -37,6 +37,8 @@ impl Held for Right {
 
     ghost taken = { λ r. r.held };
 
+    ghost blank = { free_right };
+
     #[tactic(auto, unfolding(crate::specs::Names::same_id, crate::specs::Names::same_name))]
     fn is_named(self, name: RightName) -> bool {
         self.held && self.name == name
@@ -45,16 +47,14 @@ impl Held for Right {
     fn is_held(self) -> bool {
         self.held
     }
+
+    #[tactic(auto, unfolding(crate::specs::Rights::free_right, crate::specs::Names::no_id))]
+    fn free() -> Right {
+        FREE_RIGHT
+    }
 }
 
 impl Right {
-    #[tactic(auto, unfolding(crate::specs::Rights::free_right, crate::specs::Names::no_id))]
-    pub fn free() -> Right
-        ensures { result ≡ free_right }
-    {
-        FREE_RIGHT
-    }
-
     // A right of an ID.
     #[tactic(auto, unfolding(crate::specs::Names::same_id))]
     pub fn is_of(self, id: KeyId) -> bool

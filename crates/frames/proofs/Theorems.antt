@@ -12,7 +12,7 @@ use denote.Laws.{Is}
 use Rattle.std.specs.Prelude.{if◌then◌else◌}
 use Rattle.figures.specs.Limits.{key_bytes}
 use Rattle.figures.specs.Keys.{zeros}
-use Rattle.frames.specs.Types.{Frame, Seen, Ok, Err, Refusal, Unreadable, BufferLength, Err}
+use Rattle.frames.specs.Types.{Frame, Seen, Ok, Err, Refusal, Unreadable, BufferLength}
 use Rattle.frames.specs.Numbers.{total}
 use Rattle.frames.specs.Layouts.{report_kind, delete_kind, load_widths, message_widths, right_widths, length_with, has_key, whole_length}
 use Rattle.frames.specs.Reading.{is_load, is_message, is_right, seen, key_beside, reading}

@@ -2,15 +2,16 @@
 use Rattle.std.specs.Prelude.{ℕ, ◌<◌, ◌^◌, List, [], ◌∷◌, ◌++◌, length, drop, ltb, if◌then◌else◌}
 use Rattle.std.specs.List.{All}
 use Rattle.figures.specs.Keys.{zeros}
-use Rattle.frames.specs.Types.{Frame, ReadFrame, Seen, Ok, Err, Ok, Err}
+use Rattle.frames.specs.Types.{Frame, ReadFrame, Seen, Ok, Err}
 use Rattle.frames.specs.Layouts.{widths_of, has_key}
 use Rattle.frames.specs.Reading.{is_load, is_message, is_right, seen, key_beside}
 use Rattle.frames.specs.Writing.{numbers_of, written_as, Writing, outcome, unwritten, writing}
 
--- every element is a byte
+-- a byte
 abbrev pub IsByte : ℕ → Type 0
 IsByte b = b < 256
 
+-- every element is a byte
 abbrev pub Bytes : List ℕ → Type 0
 Bytes s = All IsByte s
 

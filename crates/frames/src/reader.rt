@@ -31,7 +31,7 @@ fn bytes_at<const N: usize>(bytes: &[u8], at: usize) -> [u8; N]
     found
 }
 
-// Each part below asks for as many bytes as its own widths take, so no struct can carry that fact for all.
+// Each part below asks for as many bytes as its own widths take; as arrays, each would first be cut out of the one above by an `Option` that never fails.
 fn id_in(bytes: &[u8]) -> KeyId
     requires { total id_widths ≤ length bytes.now }
     ensures { result ≡ id_from (split id_widths 0 bytes.now) }
@@ -58,7 +58,7 @@ fn name_in(bytes: &[u8]) -> RightName
     }
 }
 
-// Bit 0 is add, bit 1 that the key is present. No `From`: the flags and a byte both belong to crates below.
+// Bit 0 is add, bit 1 that the key is present. No `From`: it would drop the other bits, and where the bits lie is for frames to say.
 fn flags_from(b: u8) -> Flags
     ensures { result ≡ flags_from b }
 {

@@ -24,7 +24,7 @@ fn put<const N: usize>(buffer: &mut [u8], at: usize, spelt: [u8; N])
     buffer[at..at + N].copy_from_slice(&spelt);
 }
 
-// Here too each part asks for its own widths.
+// Here too each part asks for its own widths, and arrays would be cut first.
 fn put_id(buffer: &mut [u8], kind: u8, id: KeyId)
     requires { total id_widths ≤ length buffer.old }
     ensures { buffer.new ≡ sets buffer.old 0 (join id_widths (id_numbers kind id)) }
@@ -55,6 +55,7 @@ fn put_right(buffer: &mut [u8], kind: u8, name: RightName)
     put(buffer, SPE_AT, [name.spe]);
 }
 
+// As for the reader, no `From`.
 fn flags_byte(flags: Flags) -> u8
     ensures { result ≡ flags_byte flags }
 {
@@ -106,6 +107,7 @@ fn frame_length(frame: Frame) -> usize
 }
 
 // 01, Frames: the frame at the front, later bytes as found; 10 and nothing altered where the buffer is shorter than the frame.
+// The count stands beside the lent buffer, as the promise (`outcome`) has it.
 pub fn write(frame: Frame, key: [u8; KEY_BYTES], buffer: &mut [u8]) -> Result<usize, Refusal>
     ensures { outcome result buffer.new ≡ writing frame key buffer.old }
 {

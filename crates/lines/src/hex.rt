@@ -1,4 +1,4 @@
-// Upper-case hexadecimal, two digits a byte: 01, The line program.
+// Upper-case hexadecimal, two digits a byte: 01, The line program. The kit's `hex` reads lower case too, and allocates.
 ghost use Rattle.std.specs.Prelude.{◌≡◌, ◌<◌};
 ghost use Rattle.lines.specs.Hex.{digit_of, byte_of, decoding, glyph, printed};
 

@@ -1,4 +1,4 @@
-// A row of fixed size that fills from the front.
+// A row of fixed size that fills from the front. No `ArrayVec`: a state is copied, and the promises tell what stands after the bytes that have come.
 #![tactic(auto)]
 
 ghost use Rattle.std.specs.Prelude.{◌≡◌, ◌≤◌, ◌==◌, [], take, replicate};

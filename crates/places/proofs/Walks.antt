@@ -17,7 +17,7 @@ use Rattle.places.specs.Words.{next, first, at, put, put_all, or_else}
 abbrev pub past : ℕ → Option ℕ → Option ℕ
 past i w = option_map (λ j. i + j) w
 
-past_next : (i : ℕ) (w : Option ℕ) → past (suc i) w ≡ past i (next w)
+pub past_next : (i : ℕ) (w : Option ℕ) → past (suc i) w ≡ past i (next w)
 past_next i (Some j) = ap Some (omega arith)
 past_next i None = refl
 

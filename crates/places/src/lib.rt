@@ -4,7 +4,7 @@
 ghost use Rattle.std.specs.Prelude.{◌≡◌};
 ghost use Rattle.places.specs.Words.{failed};
 
-// Whether a check passed: 01, The shape of each place, wants an enum that let .. else takes apart, and a check has no value to give.
+// Whether a check passed: 01, The shape of each place. A `Result` would name the refusal twice, here and where let .. else returns it.
 #[derive(Clone, Copy)]
 pub enum Verdict {
     Passed,

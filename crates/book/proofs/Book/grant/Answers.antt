@@ -8,5 +8,5 @@ pub returns : goal.returns
 unfolding put
 returns c =
     let s = c.args in
-    rw (c.copy_from_slice.ensures.after, c.shown_of-shown.ensures, c.charged-charged.ensures, c.granted-next.ensures, c.spend-purse.ensures)
-    (grant_in (pages s.self) s.places.key s.places.right c.requires.held.key c.requires.held.right s.ts _ _)
+    rw (c.shown_of-shown.ensures, c.charged-charged.ensures, c.granted-next.ensures, c.spend-purse.ensures)
+    (grant_in (pages s.self) s.places.key s.places.right c.requires.key c.requires.right s.ts _ _)

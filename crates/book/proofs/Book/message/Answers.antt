@@ -24,14 +24,6 @@ pays c =
     let found = sym c.in-Some.ensures in
     c.payer.ensures ∙ payer_found b m c.in-Some.key_place _ found c.in-Some-fitting.from (sym (fitting_found b m c.in-Some.key_place _ found) ∙ sym c.in-Some-fitting.ensures)
 
-pub returns-in_default : goal.returns-in_default
-unfolding key_at message message_refusals unless
-returns-in_default c = simp (c.refused.ensures, ← c.in_default.ensures)
-
-pub returns-in_default-place_of : goal.returns-in_default-place_of
-unfolding key_at message message_refusals unless
-returns-in_default-place_of c = simp (c.refused-in_default-place_of.ensures, ← c.in-Passed.ensures, ← c.in_default-place_of.ensures)
-
 pub offset_bounds-self-key_place : goal.offset_bounds-self-key_place
 unfolding key_at
 offset_bounds-self-key_place c = omega (arith, key_inside (pages c.args.self) c.args.frame.id _ (sym c.in-Some.ensures))
@@ -61,10 +53,7 @@ pub grant-requires : goal.grant-requires
 unfolding key_at payer
 grant-requires c =
     let p = pays (goal.at.grant-requires c).After-payer in
-    record {
-      held = record { key = key_inside (pages c.args.self) c.args.frame.id _ (sym c.in-Some.ensures); right = first_in _ _ _ (sym p ∙ c.in-Some-payer.is) };
-      room = c.requires;
-    }
+    record { key = key_inside (pages c.args.self) c.args.frame.id _ (sym c.in-Some.ensures); right = first_in _ _ _ (sym p ∙ c.in-Some-payer.is) }
 
 pub returns : goal.returns
 unfolding key_at message message_refusals payer unless

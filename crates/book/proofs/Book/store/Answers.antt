@@ -49,36 +49,6 @@ six_pass c u d =
     let x = goal.at.In-Some-room_for c in
     simp (four_pass x.In-Passed-known, ← key_goes x.After-room_for, c.in-Some.is, ← right_goes x.After-room_for-2, c.in-Some-room_for.is)
 
-pub returns-in_default : goal.returns-in_default
-unfolding store load_refusals loadable unless
-returns-in_default c = λ u. simp (c.refused.ensures, ← c.in_default.ensures)
-
-pub returns-in_default-free_of_cost : goal.returns-in_default-free_of_cost
-unfolding store load_refusals loadable unless
-returns-in_default-free_of_cost c = λ u. simp (c.refused-in_default-free_of_cost.ensures, ← c.in-Passed.ensures, ← c.in_default-free_of_cost.ensures)
-
-pub returns-in_default-proper : goal.returns-in_default-proper
-unfolding store load_refusals loadable unless
-returns-in_default-proper c =
-    λ u. simp (c.refused-in_default-proper.ensures, ← c.in-Passed.ensures, ← c.in-Passed-free_of_cost.ensures, ← c.in_default-proper.ensures)
-
-pub returns-in_default-known : goal.returns-in_default-known
-unfolding store load_refusals loadable key_at unless
-returns-in_default-known c =
-    λ u. simp (c.refused-in_default-known.ensures, ← c.in-Passed.ensures, ← c.in-Passed-free_of_cost.ensures, ← c.in-Passed-proper.ensures, ← c.place_of-key.ensures, ← c.in_default-known.ensures)
-
-pub returns-in_default-room_for : goal.returns-in_default-room_for
-unfolding store load_refusals unless
-returns-in_default-room_for c =
-    let x = goal.at.returns-in_default-room_for c in
-    λ u. simp (c.refused-in_default-room_for.ensures, four_pass x.In-Passed-known, ← key_goes x.After-room_for, c.in_default-room_for.is)
-
-pub returns-in_default-room_for-2 : goal.returns-in_default-room_for-2
-unfolding store load_refusals unless
-returns-in_default-room_for-2 c =
-    let x = goal.at.returns-in_default-room_for-2 c in
-    λ u. simp (c.refused-in_default-room_for-2.ensures, four_pass x.In-Passed-known, ← key_goes x.After-room_for, c.in-Some.is, ← right_goes x.After-room_for-2, c.in_default-room_for-2.is)
-
 pub returns-in_default-settled : goal.returns-in_default-settled
 unfolding store load_refusals over_limit over_reply purse_of unless
 returns-in_default-settled c =

@@ -4,7 +4,7 @@ use Rattle.figures.specs.Rights.{free_right}
 use Rattle.figures.specs.Limits.{right_places}
 use Rattle.book.specs.Types.{KeptRight}
 use Rattle.book.proofs.Mapped.{mapped}
-use Rattle.book.proofs.kept.KeptBookFromBook.from.Goals as goal
+use Rattle.book.proofs.kept.KeptBook.of.Goals as goal
 
 pub returns : goal.returns
 unfolding kept
