@@ -25,9 +25,13 @@ is_digit c = ltb (digit_value c) 16
 abbrev pub digit_of : ℕ → Option ℕ
 digit_of c = if is_digit c then Some (digit_value c) else None
 
--- the byte of two digits
+-- what two digits are worth
+abbrev pub worth : ℕ → ℕ → ℕ
+worth a b = digit_value a * 16 + digit_value b
+
+-- the byte of two digits, and none where one is another character
 abbrev pub byte_of : ℕ → ℕ → Option ℕ
-byte_of a b = if is_digit a && is_digit b then Some (digit_value a * 16 + digit_value b) else None
+byte_of a b = if is_digit a && is_digit b then Some (worth a b) else None
 
 abbrev pub all_digits : List ℕ → Bool
 all_digits [] = true
@@ -37,7 +41,7 @@ all_digits (c ∷ cs) = is_digit c && all_digits cs
 abbrev pub pairs : List ℕ → List ℕ
 pairs [] = []
 pairs (a ∷ []) = []
-pairs (a ∷ b ∷ cs) = (digit_value a * 16 + digit_value b) ∷ pairs cs
+pairs (a ∷ b ∷ cs) = worth a b ∷ pairs cs
 
 -- an empty line, an odd count, more than 84 characters, or another character
 unfoldable pub damaged : List ℕ → Bool
