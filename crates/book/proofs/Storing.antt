@@ -27,6 +27,6 @@ done_by b u l bytes =
 
 pub stored_is : (b : Book) (l : Load) (bytes : List ℕ) (p : Places) → Held b p
     → key_room (pages b) l.name.id ≡ Some p.key → right_room (pages b) l.name ≡ Some p.right → (u : List ℕ)
-    → after (stored b l bytes (key_at (pages b) l.name.id) p (settled_by b l)) u ≡ done_by b u l bytes
+    → after (stored b l bytes (record { held = key_at (pages b) l.name.id; places = p; settled = settled_by b l })) u ≡ done_by b u l bytes
 unfolding loaded key_after key_in
 stored_is b l bytes p h k r u = rw (k, r, ← shown_in (pages b) p.key p.right h.key h.right)

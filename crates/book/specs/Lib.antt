@@ -2,4 +2,3 @@ pub mod Types
 pub mod Pages
 pub mod Choices
 pub mod Stored
-pub mod Kept

@@ -3,13 +3,21 @@ use Rattle.std.specs.Prelude.{ℕ, ◌<◌, List, length}
 use Rattle.places.specs.Words.{put}
 use Rattle.rules.specs.Pages.{Pages}
 use Rattle.rules.specs.Calls.{After}
-use Rattle.book.specs.Types.{Book, Called, Places, Some, Tokens, Key, Right, Shown}
+use Rattle.book.specs.Types.{Book, Called, Places, Some, Tokens, Key, Right, Shown, Reply}
 
 abbrev pub pages : Book → Pages
 pages b = record { keys = b.keys; rights = b.rights; purse = b.purse }
 
+-- a book is its pages
+abbrev pub bound : Pages → Book
+bound p = record { keys = p.keys; rights = p.rights; purse = p.purse }
+
+-- how a call ends: the book, the reply, and the lent key buffer
+abbrev pub ends : Book → Reply → List ℕ → After
+ends b r u = record { book = pages b; reply = r; buffer = u }
+
 abbrev pub after : Called → List ℕ → After
-after c u = record { book = pages c.book; reply = c.reply; buffer = u }
+after c u = ends c.book c.reply u
 
 -- the book with a key and a right in these places, and a purse
 abbrev pub changed : Book → Places → Key → Right → Tokens → Book

@@ -2,7 +2,6 @@
 #![tactic(auto)]
 
 mod deletions;
-pub mod kept;
 mod loads;
 mod lookups;
 mod messages;
@@ -12,7 +11,7 @@ ghost use Rattle.std.specs.Prelude.{◌≡◌};
 ghost use Rattle.rules.specs.Pages.{empty_book};
 ghost use Rattle.rules.specs.Rules.{act, call};
 ghost use Rattle.book.specs.Types.{Refused};
-ghost use Rattle.book.specs.Pages.{pages, after};
+ghost use Rattle.book.specs.Pages.{pages, ends, after};
 
 use figures::keys::{FREE_KEY, Key};
 use figures::limits::{KEY_BYTES, KEY_PLACES, RIGHT_PLACES};
@@ -74,7 +73,7 @@ impl Book {
         }
     }
 
-    // A byte string and the lent key buffer.
+    // A byte string and the lent key buffer. By value: 01, The shape of each place.
     #[tactic(auto, unfolding(rules::specs::Rules::call, rules::specs::Rules::buffer_refusals, rules::specs::Rules::taken, rules::specs::Calls::unless))]
     pub fn call(self, frame: &[u8], key: &mut [u8]) -> Called
         ensures { after result key.new ≡ call (pages self) frame.now key.old }
@@ -86,6 +85,39 @@ impl Book {
         match read.frame {
             Ok(frame) => self.act(frame, read.key, key),
             Err(why) => self.refused(why),
+        }
+    }
+
+    // What a frame of each kind does to a book where it lies.
+    #[tactic(auto, unfolding(rules::specs::Rules::act))]
+    fn serve_frame(
+        &mut self,
+        frame: Frame,
+        bytes: [u8; KEY_BYTES],
+        key: &mut [u8; KEY_BYTES],
+    ) -> Reply
+        ensures { ends self.new result key.new ≡ act (pages self.old) key.old frame bytes }
+    {
+        match frame {
+            Frame::Load(load) => self.serve_load(load, bytes),
+            Frame::Message(message) => self.serve_message(message, key),
+            Frame::Report(name) => self.reported(name),
+            Frame::Delete(name) => self.serve_delete(name),
+        }
+    }
+
+    // `call` on a book where it lies, so that none is copied: for lines, and for cards, which are short of stack.
+    #[tactic(auto, unfolding(rules::specs::Rules::call, rules::specs::Rules::buffer_refusals, rules::specs::Rules::taken, rules::specs::Calls::unless))]
+    pub fn serve(&mut self, frame: &[u8], key: &mut [u8]) -> Reply
+        ensures { ends self.new result key.new ≡ call (pages self.old) frame.now key.old }
+    {
+        let Some(lent) = key.as_mut_array::<KEY_BYTES>() else {
+            return Reply::Refused(Refusal::BufferLength);
+        };
+        let read = read(frame);
+        match read.frame {
+            Ok(frame) => self.serve_frame(frame, read.key, lent),
+            Err(why) => Reply::Refused(why),
         }
     }
 }

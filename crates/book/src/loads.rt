@@ -1,10 +1,10 @@
 // Loads: 01, What a load does.
-ghost use Rattle.std.specs.Prelude.{◌≡◌, not, ◌&&◌, List, ℕ};
+ghost use Rattle.std.specs.Prelude.{◌≡◌, not, ◌&&◌, List, ℕ, IfOk};
 ghost use Rattle.places.specs.Words.{missing, failed};
 ghost use Rattle.rules.specs.Loads.{store};
 ghost use Rattle.rules.specs.Rules.{load};
-ghost use Rattle.book.specs.Pages.{pages, after, Held};
-ghost use Rattle.book.specs.Stored.{stored, over};
+ghost use Rattle.book.specs.Pages.{pages, ends, after, Held};
+ghost use Rattle.book.specs.Stored.{stored, settles, over};
 
 use crate::lookups::{Places, held_in, place_of, room_for, shown_of};
 use crate::{Book, Called};
@@ -21,84 +21,94 @@ fn known(held: Option<usize>, carried: bool) -> Verdict
     Verdict::unless(held.is_none() && !carried)
 }
 
+// Where a load goes, and what it leaves of the account and the purse.
+#[derive(Clone, Copy)]
+pub struct Storing {
+    pub held: Option<usize>,
+    pub places: Places,
+    pub settled: Settled,
+}
+
 impl Book {
     // 17: as held where the right is held.
     #[tactic(auto, unfolding(rules::specs::Pages::user_purse))]
-    fn over(self, key: Option<usize>, right: Option<usize>) -> Called
-        ensures { result ≡ record { book = self; reply = over (pages self) key right } }
+    fn over(&self, key: Option<usize>, right: Option<usize>) -> Reply
+        ensures { result ≡ over (pages self.now) key right }
     {
         match right {
-            Some(place) => {
-                let shown = self.as_held(key, place);
-                self.unchanged(Reply::OverHeld(shown))
-            }
-            None => self.unchanged(Reply::OverNew(self.purse)),
+            Some(place) => Reply::OverHeld(self.as_held(key, place)),
+            None => Reply::OverNew(self.purse),
         }
+    }
+
+    // Looks for the places of a load other than 0A, in the order of 01, Replies.
+    #[tactic(auto, unfolding(rules::specs::Loads::store, rules::specs::Loads::load_refusals, rules::specs::Loads::loadable, rules::specs::Pages::key_at, rules::specs::Pages::right_at, rules::specs::Pages::free_key_at, rules::specs::Pages::free_right_at, rules::specs::Pages::key_room, rules::specs::Pages::right_room, rules::specs::Pages::right_in, rules::specs::Pages::purse_of, rules::specs::Loads::account_before, rules::specs::Loads::over_limit, rules::specs::Loads::over_reply, rules::specs::Calls::unless))]
+    fn storing(&self, load: Load) -> Result<Storing, Reply>
+        ensures ends { (u bytes : List ℕ) → store (pages self.now) u load bytes ≡ settles self.now u load bytes result }
+        ensures places { IfOk result (λ s. Held self.now s.places) }
+    {
+        let name = load.name;
+        let Verdict::Passed = policy(name.spe) else {
+            return Err(Reply::Refused(Refusal::Policy));
+        };
+        let Verdict::Passed = load.free_of_cost() else {
+            return Err(Reply::Refused(Refusal::Fields));
+        };
+        let Verdict::Passed = name.interval.proper() else {
+            return Err(Reply::Refused(Refusal::EmptyInterval));
+        };
+        let held = place_of(&self.keys, name.id);
+        let Verdict::Passed = known(held, load.flags.key) else {
+            return Err(Reply::Refused(Refusal::UnknownId));
+        };
+        let Some(key) = room_for(&self.keys, held) else {
+            return Err(Reply::Refused(Refusal::Full));
+        };
+        let named = place_of(&self.rights, name);
+        let Some(right) = room_for(&self.rights, named) else {
+            return Err(Reply::Refused(Refusal::Full));
+        };
+        let before = held_in(&self.rights, named);
+        let Some(settled) = load.settled(before.account, self.purse) else {
+            return Err(self.over(held, named));
+        };
+        Ok(Storing {
+            held,
+            places: Places { key, right },
+            settled,
+        })
     }
 
     // The load's key and right go to their places. The key is the one held before, or a free one.
     #[tactic(auto, unfolding(places::specs::Words::put, figures::specs::Keys::free_key, figures::specs::Names::no_id))]
-    fn stored(
-        self,
-        load: Load,
-        bytes: [u8; KEY_BYTES],
-        held: Option<usize>,
-        places: Places,
-        settled: Settled,
-    ) -> Called
-        requires { Held self places }
-        ensures { result ≡ stored self load bytes held places settled }
+    fn keep(&mut self, load: Load, bytes: [u8; KEY_BYTES], storing: Storing) -> Reply
+        requires { Held self.old storing.places }
+        ensures { record { book = self.new; reply = result } ≡ stored self.old load bytes storing }
     {
-        let before = held_in(&self.keys, held);
-        let key = before.loaded(load.name.id, load.flags.key, bytes);
-        let right = load.right(settled.account);
-        let purse = settled.purse;
-        let mut book = self;
-        book.keys[places.key] = key;
-        book.rights[places.right] = right;
-        book.purse = purse;
-        let shown = shown_of(places.right, right, key, purse);
-        Called {
-            book,
-            reply: Reply::Loaded(shown),
-        }
+        let Places { key, right } = storing.places;
+        let before = held_in(&self.keys, storing.held);
+        let next = before.loaded(load.name.id, load.flags.key, bytes);
+        let made = load.right(storing.settled.account);
+        let purse = storing.settled.purse;
+        self.keys[key] = next;
+        self.rights[right] = made;
+        self.purse = purse;
+        let shown = shown_of(right, made, next, purse);
+        Reply::Loaded(shown)
     }
 
-    // A load other than 0A. 01, The shape of each place: let .. else returns each refusal with the book unchanged, not `?`.
-    #[tactic(auto, unfolding(rules::specs::Loads::store, rules::specs::Loads::load_refusals, rules::specs::Loads::loadable, rules::specs::Pages::key_at, rules::specs::Pages::right_at, rules::specs::Pages::free_key_at, rules::specs::Pages::free_right_at, rules::specs::Pages::key_room, rules::specs::Pages::right_room, rules::specs::Pages::right_in, rules::specs::Pages::purse_of, rules::specs::Loads::account_before, rules::specs::Loads::over_limit, rules::specs::Loads::over_reply, rules::specs::Calls::unless))]
+    // By value: 01, The shape of each place.
     fn store(self, load: Load, bytes: [u8; KEY_BYTES]) -> Called
         ensures { (u : List ℕ) → after result u ≡ store (pages self) u load bytes }
     {
-        let name = load.name;
-        let Verdict::Passed = policy(name.spe) else {
-            return self.refused(Refusal::Policy);
-        };
-        let Verdict::Passed = load.free_of_cost() else {
-            return self.refused(Refusal::Fields);
-        };
-        let Verdict::Passed = name.interval.proper() else {
-            return self.refused(Refusal::EmptyInterval);
-        };
-        let key = place_of(&self.keys, name.id);
-        let Verdict::Passed = known(key, load.flags.key) else {
-            return self.refused(Refusal::UnknownId);
-        };
-        let Some(key_place) = room_for(&self.keys, key) else {
-            return self.refused(Refusal::Full);
-        };
-        let right = place_of(&self.rights, name);
-        let Some(right_place) = room_for(&self.rights, right) else {
-            return self.refused(Refusal::Full);
-        };
-        let before = held_in(&self.rights, right);
-        let Some(settled) = load.settled(before.account, self.purse) else {
-            return self.over(key, right);
-        };
-        let places = Places {
-            key: key_place,
-            right: right_place,
-        };
-        self.stored(load, bytes, key, places, settled)
+        match self.storing(load) {
+            Ok(storing) => {
+                let mut book = self;
+                let reply = book.keep(load, bytes, storing);
+                Called { book, reply }
+            }
+            Err(reply) => self.unchanged(reply),
+        }
     }
 
     #[tactic(auto, unfolding(rules::specs::Rules::load))]
@@ -109,6 +119,20 @@ impl Book {
             self.erase(frame)
         } else {
             self.store(frame, bytes)
+        }
+    }
+
+    // On a book where it lies.
+    #[tactic(auto, unfolding(rules::specs::Rules::load))]
+    pub(crate) fn serve_load(&mut self, frame: Load, bytes: [u8; KEY_BYTES]) -> Reply
+        ensures { (u : List ℕ) → ends self.new result u ≡ load (pages self.old) u frame bytes }
+    {
+        if is_deletion(frame.name.spe) {
+            return self.serve_erase(frame);
+        }
+        match self.storing(frame) {
+            Ok(storing) => self.keep(frame, bytes, storing),
+            Err(reply) => reply,
         }
     }
 }

@@ -1,11 +1,11 @@
 // Short term messages: 01, What a short term message does.
-ghost use Rattle.std.specs.Prelude.{◌≡◌, ◌≤◌, length, not};
+ghost use Rattle.std.specs.Prelude.{◌≡◌, ◌≤◌, List, ℕ, length, not, IfOk};
 ghost use Rattle.places.specs.Words.{failed, first};
 ghost use Rattle.figures.specs.Rights.{fits};
 ghost use Rattle.rules.specs.Messages.{grant, message};
 ghost use Rattle.book.specs.Types.{Some};
-ghost use Rattle.book.specs.Pages.{pages, after, Held};
-ghost use Rattle.book.specs.Choices.{pays, payer_from};
+ghost use Rattle.book.specs.Pages.{pages, ends, after, Held};
+ghost use Rattle.book.specs.Choices.{pays, payer_from, earned};
 
 use crate::lookups::{Places, place_of, shown_of};
 use crate::{Book, Called};
@@ -50,50 +50,73 @@ impl Book {
         Some(place)
     }
 
+    // Looks for the key that a message asks for and the right that pays, in the order of 01, Replies.
+    #[tactic(auto, unfolding(rules::specs::Messages::message, rules::specs::Messages::message_refusals, rules::specs::Pages::key_at, rules::specs::Calls::unless))]
+    fn earner(&self, frame: Message) -> Result<Places, Refusal>
+        ensures ends { (u : List ℕ) → message (pages self.now) u frame ≡ earned (pages self.now) u frame result }
+        ensures places { IfOk result (λ p. Held self.now p) }
+    {
+        let Verdict::Passed = integrity(frame.good) else {
+            return Err(Refusal::Integrity);
+        };
+        let Some(key) = place_of(&self.keys, frame.id) else {
+            return Err(Refusal::UnknownId);
+        };
+        let replay = self.keys[key].replay;
+        let Some(from) = fitting(&self.rights, frame, replay) else {
+            return Err(Refusal::NoFit);
+        };
+        let Some(right) = self.payer(from, frame, replay) else {
+            return Err(Refusal::NoFunds);
+        };
+        Ok(Places { key, right })
+    }
+
     // The key in its place is handed out, and the right in its place is charged.
-    fn grant(self, places: Places, ts: Timestamp, key: &mut [u8; KEY_BYTES]) -> Called
-        requires { Held self places }
-        ensures { after result key.new ≡ grant (pages self) (Some places.key) (Some places.right) ts }
+    fn pay(&mut self, places: Places, ts: Timestamp, key: &mut [u8; KEY_BYTES]) -> Reply
+        requires { Held self.old places }
+        ensures { ends self.new result key.new ≡ grant (pages self.old) (Some places.key) (Some places.right) ts }
     {
         let held = self.keys[places.key];
         let right = self.rights[places.right];
         let next = held.granted(ts);
         let charged = right.charged();
         let purse = right.account.spend(self.purse);
-        let mut book = self;
-        book.keys[places.key] = next;
-        book.rights[places.right] = charged;
-        book.purse = purse;
+        self.keys[places.key] = next;
+        self.rights[places.right] = charged;
+        self.purse = purse;
         let bytes = held.bytes;
         *key = bytes;
         let shown = shown_of(places.right, charged, next, purse);
-        Called {
-            book,
-            reply: Reply::Granted(shown),
-        }
+        Reply::Granted(shown)
     }
 
-    #[tactic(auto, unfolding(rules::specs::Messages::message, rules::specs::Messages::message_refusals, rules::specs::Pages::key_at, rules::specs::Calls::unless))]
+    // By value: 01, The shape of each place.
+    fn grant(self, places: Places, ts: Timestamp, key: &mut [u8; KEY_BYTES]) -> Called
+        requires { Held self places }
+        ensures { after result key.new ≡ grant (pages self) (Some places.key) (Some places.right) ts }
+    {
+        let mut book = self;
+        let reply = book.pay(places, ts, key);
+        Called { book, reply }
+    }
+
     pub(crate) fn message(self, frame: Message, key: &mut [u8; KEY_BYTES]) -> Called
         ensures { after result key.new ≡ message (pages self) key.old frame }
     {
-        let Verdict::Passed = integrity(frame.good) else {
-            return self.refused(Refusal::Integrity);
-        };
-        let Some(key_place) = place_of(&self.keys, frame.id) else {
-            return self.refused(Refusal::UnknownId);
-        };
-        let replay = self.keys[key_place].replay;
-        let Some(from) = fitting(&self.rights, frame, replay) else {
-            return self.refused(Refusal::NoFit);
-        };
-        let Some(right_place) = self.payer(from, frame, replay) else {
-            return self.refused(Refusal::NoFunds);
-        };
-        let places = Places {
-            key: key_place,
-            right: right_place,
-        };
-        self.grant(places, frame.ts, key)
+        match self.earner(frame) {
+            Ok(places) => self.grant(places, frame.ts, key),
+            Err(why) => self.refused(why),
+        }
+    }
+
+    // On a book where it lies.
+    pub(crate) fn serve_message(&mut self, frame: Message, key: &mut [u8; KEY_BYTES]) -> Reply
+        ensures { ends self.new result key.new ≡ message (pages self.old) key.old frame }
+    {
+        match self.earner(frame) {
+            Ok(places) => self.pay(places, frame.ts, key),
+            Err(why) => Reply::Refused(why),
+        }
     }
 }

@@ -21,10 +21,10 @@ use Rattle.rules.specs.Pages.{Pages, Sizes, key_at, key_in, right_in}
 use Rattle.rules.specs.Calls.{After}
 use Rattle.rules.specs.Messages.{replay_of}
 use Rattle.rules.specs.Replies.{reply_fields, code}
-use Rattle.rules.specs.Sound.{Sound}
+use Rattle.rules.specs.Sound.{Sound, by_call}
 use Rattle.rules.specs.OneCall.{OnlyAt, Gone, Replays, as_live, as_playback, Pays, from_counter, from_purse, Grant, LoadsKey, new, replaced, kept, Outcome, refused, limit_passed, granted, reported, loaded, erased, deleted}
 use Rattle.rules.proofs.OneCall.{every_call, grants_charge}
-use Rattle.rules.proofs.Kept.{call_sound, key_at_is}
+use Rattle.rules.proofs.Kept.{call_sound, reached_sound, key_at_is}
 use Rattle.demands.specs.Types.{Option, Some, TrafficKeys, Timestamp, KeyId, Counted, Account, Tokens, Key, Load, Message, Seen, Reply, Loaded, Deleted, Granted, Reported, OverHeld, OverNew, Refused, Frame, MessageFrame, Ok}
 use Rattle.demands.specs.Runs.{Call, called, final, replies}
 use Rattle.demands.specs.Corollaries.{paid_from_purse, Holding, none, more, LiveGrant, RepeatNeverLive, NoTsTwiceLive, took, took_all, is_loaded, PurseLosesWhatGrantsTook, ExhaustedStays}
@@ -174,13 +174,14 @@ live-sets {z} b s i ts c l =
 
 pub repeat_never_live : RepeatNeverLive
 unfolding live
-repeat_never_live z b s i ts c cs once holds =
+repeat_never_live z b h i ts c cs once holds =
+    let s = reached_sound h in
     let f = live-sets b s i ts c once in
     let up = run_rises (called b c).book (after_sound b s c) i cs f.0 holds in
     le-ltb (replay_of (final (called b c).book cs) i).0 ts.0 (omega (arith, f.1))
 
 pub no_ts_twice_live : NoTsTwiceLive
-no_ts_twice_live z b s i ts c cs d once holds twice = clash twice.is_live (repeat_never_live z b s i ts c cs once holds)
+no_ts_twice_live z b h i ts c cs d once holds twice = clash twice.is_live (repeat_never_live z b h i ts c cs once holds)
 
 -- ## The purse
 
@@ -215,10 +216,10 @@ call-took (deleted c r q) n = let w = ap took r.reply in let v = ap (λ (t : Tok
 
 pub purse_loses_what_grants_took : PurseLosesWhatGrantsTook
 unfolding final replies took_all
-purse_loses_what_grants_took z b s [] n = omega arith
-purse_loses_what_grants_took z b s (c ∷ cs) n =
-    let one = call-took (every_call z b s c.frame c.buffer) n.0 in
-    let rest = purse_loses_what_grants_took z (called b c).book (after_sound b s c) cs n.1 in
+purse_loses_what_grants_took z b h [] n = omega arith
+purse_loses_what_grants_took z b h (c ∷ cs) n =
+    let one = call-took (every_call z b (reached_sound h) c.frame c.buffer) n.0 in
+    let rest = purse_loses_what_grants_took z (called b c).book (by_call h c.frame c.buffer) cs n.1 in
     omega arith
 
 -- ## An exhausted right
@@ -246,4 +247,4 @@ module _ (b : Pages) (x : List ℕ) (m : Message) (e : (reading x).frame ≡ Ok 
   exhausted_in (deleted c r v) = cc (not_this r.read)
 
 pub exhausted_stays : ExhaustedStays
-exhausted_stays z b s c m e p n h q = exhausted_in b c.frame m e p n h q (every_call z b s c.frame c.buffer)
+exhausted_stays z b r c m e p n h q = exhausted_in b c.frame m e p n h q (every_call z b (reached_sound r) c.frame c.buffer)

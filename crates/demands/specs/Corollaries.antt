@@ -6,7 +6,7 @@ use Rattle.frames.specs.Reading.{reading}
 use Rattle.rules.specs.Pages.{Pages, Sizes, key_at, right_in}
 use Rattle.rules.specs.Messages.{replay_of}
 use Rattle.rules.specs.Replies.{code}
-use Rattle.rules.specs.Sound.{Sound}
+use Rattle.rules.specs.Sound.{Reached}
 use Rattle.demands.specs.Types.{Some, TrafficKeys, Timestamp, KeyId, Counted, Purse, Account, Message, Reply, Loaded, Deleted, Granted, Reported, OverHeld, OverNew, Refused, MessageFrame, Ok}
 use Rattle.demands.specs.Runs.{Call, called, final, replies}
 
@@ -28,13 +28,13 @@ pub record LiveGrant (i : KeyId) (ts : Timestamp) (b : Pages) (c : Call) : Type 
 
 abbrev pub NoTsTwiceLive : Type 0
 NoTsTwiceLive =
-    (z : Sizes) (b : Pages) → Sound z b → (i : KeyId) (ts : Timestamp) (c : Call) (cs : List Call) (d : Call) → LiveGrant i ts b c → Holding i (called b c).book cs
+    (z : Sizes) (b : Pages) → Reached z b → (i : KeyId) (ts : Timestamp) (c : Call) (cs : List Call) (d : Call) → LiveGrant i ts b c → Holding i (called b c).book cs
     → LiveGrant i ts (final (called b c).book cs) d → ⊥
 
 -- a message sent again while its key is held is never charged as live again
 abbrev pub RepeatNeverLive : Type 0
 RepeatNeverLive =
-    (z : Sizes) (b : Pages) → Sound z b → (i : KeyId) (ts : Timestamp) (c : Call) (cs : List Call) → LiveGrant i ts b c → Holding i (called b c).book cs
+    (z : Sizes) (b : Pages) → Reached z b → (i : KeyId) (ts : Timestamp) (c : Call) (cs : List Call) → LiveGrant i ts b c → Holding i (called b c).book cs
     → live (replay_of (final (called b c).book cs) i) ts ≡ false
 
 -- ## What grants took from the purse is what the purse lost
@@ -73,11 +73,11 @@ NoLoads (r ∷ rs) = (is_loaded r ≡ false) × NoLoads rs
 
 abbrev pub PurseLosesWhatGrantsTook : Type 0
 PurseLosesWhatGrantsTook =
-    (z : Sizes) (b : Pages) → Sound z b → (cs : List Call) → NoLoads (replies b cs) → b.purse.0 ≡ (final b cs).purse.0 + took_all (replies b cs)
+    (z : Sizes) (b : Pages) → Reached z b → (cs : List Call) → NoLoads (replies b cs) → b.purse.0 ≡ (final b cs).purse.0 + took_all (replies b cs)
 
 -- ## An exhausted right stays held and pays nothing
 
 abbrev pub ExhaustedStays : Type 0
 ExhaustedStays =
-    (z : Sizes) (b : Pages) → Sound z b → (c : Call) (m : Message) → (reading c.frame).frame ≡ Ok (MessageFrame m)
+    (z : Sizes) (b : Pages) → Reached z b → (c : Call) (m : Message) → (reading c.frame).frame ≡ Ok (MessageFrame m)
     → (p : ℕ) (none : TrafficKeys) → (right_in b (Some p)).account ≡ Counted none → none.0 ≡ 0 → right_in (called b c).book (Some p) ≡ right_in b (Some p)

@@ -7,7 +7,7 @@ use Rattle.rules.specs.Rules.{call}
 use Rattle.demands.specs.Types.{Book, Called}
 use Rattle.demands.specs.Runs.{Call, Event, final, replies}
 
--- what `Book::call` promises of the next book, the reply and the lent buffer afterwards
+-- what `Book::call` promises of the next book, the reply and the lent buffer afterwards, and `Book::serve` of a book where it lies
 abbrev pub Promised : Book → Call → Called → List ℕ → Type 0
 Promised b c r u = after r u ≡ call (pages b) c.frame c.buffer
 

@@ -8,11 +8,12 @@ abbrev pub can_pay : Tokens → Account → Bool
 can_pay purse (Counted left) = leb 1 left.0
 can_pay purse (Purse cost) = leb cost.0 purse.0
 
--- 01, Rights: 1 each grant from its own counter, or its cost from the purse
+-- 01, Rights: 1 each grant from its own TEK counter; a cost stays
 abbrev pub charged : Account → Account
 charged (Counted left) = Counted (record { 0 = left.0 - 1 })
 charged (Purse cost) = Purse cost
 
+-- 01, Rights: cost tokens each grant from the user purse; a counter's grant leaves it
 abbrev pub spent : Account → Tokens → Tokens
 spent (Counted left) purse = purse
 spent (Purse cost) purse = record { 0 = purse.0 - cost.0 }

@@ -12,7 +12,7 @@ zeros = replicate key_bytes 0
 unfoldable pub free_key : Key
 free_key = record { held = false; id = no_id; replay = record { 0 = 0 }; bytes = zeros }
 
--- the key of an ID
+-- 01, Rights: a held key has its ID
 abbrev pub is_key : KeyId → Key → Bool
 is_key i k = k.held && same_id k.id i
 

@@ -1,10 +1,12 @@
--- Every number of the paper that the definitions need, once. Those of the code stand in src/limits.rt, and proofs tie the two.
+-- The paper's numbers of places, SPEs and limits, once; its table of frames stands in Layouts of frames, its codes in Replies here and in rules.
+-- Those of the code stand in src/limits.rt, and proofs tie the two.
 use Rattle.std.specs.Prelude.{ℕ, List, [], ◌∷◌}
 
--- 01, Rights: key places and right places
+-- 01, Rights: key places
 abbrev pub key_places : ℕ
 key_places = 16
 
+-- 01, Rights: right places
 abbrev pub right_places : ℕ
 right_places = 32
 
@@ -12,19 +14,23 @@ right_places = 32
 abbrev pub key_bytes : ℕ
 key_bytes = 16
 
--- 01, Rights, the table's SPE column
+-- 01, Rights, the table's SPE column: live, from the user purse
 abbrev pub live_purse : ℕ
 live_purse = 0x02
 
+-- playback, from the user purse
 abbrev pub playback_purse : ℕ
 playback_purse = 0x03
 
+-- key deletion, holds nothing
 abbrev pub deletion : ℕ
 deletion = 0x0A
 
+-- live, from its own TEK counter
 abbrev pub live_counted : ℕ
 live_counted = 0x0C
 
+-- playback, from its own TEK counter
 abbrev pub playback_counted : ℕ
 playback_counted = 0x0D
 
@@ -32,13 +38,15 @@ playback_counted = 0x0D
 abbrev pub no_spe : ℕ
 no_spe = 0xFF
 
--- 01, Rights, the table's limits
+-- 01, Rights, the table's limits: of the user purse
 abbrev pub purse_limit : ℕ
 purse_limit = 0x7FFFFFF
 
+-- of a live TEK counter
 abbrev pub live_limit : ℕ
 live_limit = 0x3FFFFF
 
+-- of a playback TEK counter
 abbrev pub playback_limit : ℕ
 playback_limit = 0x7FFFFF
 

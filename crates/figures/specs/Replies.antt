@@ -2,6 +2,7 @@
 use Rattle.std.specs.Prelude.{ℕ}
 use Rattle.figures.specs.Types.{Refusal, BufferLength, Unreadable, Policy, Fields, EmptyInterval, UnknownId, Full, Integrity, NoFit, NoFunds, NotHeld}
 
+-- 01, Replies, the table's codes
 abbrev pub refusal_code : Refusal → ℕ
 refusal_code BufferLength = 0x10
 refusal_code Unreadable = 0x11

@@ -16,10 +16,11 @@ free_right =
       account = Counted (record { 0 = 0 });
     }
 
--- the right of a name; a right of an ID
+-- 01, Rights: the right of a name
 abbrev pub is_right : RightName → Right → Bool
 is_right n r = r.held && same_name r.name n
 
+-- 01, What a load does: a right of an ID
 abbrev pub is_of : KeyId → Right → Bool
 is_of i r = r.held && same_id r.name.id i
 
@@ -28,10 +29,10 @@ unfoldable pub fits : Message → Timestamp → Right → Bool
 fits m replay r =
     is_of m.id r && covers r.name.interval m.ts && beq (is_live r.name.spe) (live replay m.ts)
 
--- after a grant that it pays for
+-- 01, What a short term message does: the right is charged, and stays held
 unfoldable pub charged_right : Right → Right
 charged_right r = record { held = r.held; name = r.name; account = charged r.account }
 
--- without the rights of an ID
+-- 01, What a load does: 0A removes all rights of the ID
 unfoldable pub unless_of : KeyId → Right → Right
 unless_of i r = if is_of i r then free_right else r

@@ -6,8 +6,7 @@ use crate::held::Held;
 use crate::limits::KEY_BYTES;
 use crate::names::{KeyId, NO_ID, Timestamp};
 
-// No `Option<Key>`: 01, The shape of each place, wants an array of key structs, a free place has zero bytes (`free_key`), and C keeps it so.
-#[repr(C)]
+// No `Option<Key>`: 01, The shape of each place, wants an array of key structs and a free place has zero bytes (`free_key`).
 #[derive(Clone, Copy)]
 pub struct Key {
     pub held: bool,

@@ -5,23 +5,18 @@ ghost use Rattle.figures.specs.Names.{covers, empty, live};
 
 use places::Verdict;
 
-#[repr(C)]
 #[derive(Clone, Copy, PartialEq, Eq, PartialOrd, Ord)]
 pub struct Tokens(pub u32);
 
-#[repr(C)]
 #[derive(Clone, Copy, PartialEq, Eq, PartialOrd, Ord)]
 pub struct TrafficKeys(pub u32);
 
-#[repr(C)]
 #[derive(Clone, Copy, PartialEq, Eq, PartialOrd, Ord)]
 pub struct Timestamp(pub u32);
 
-#[repr(C)]
 #[derive(Clone, Copy, PartialEq, Eq)]
 pub struct KeyDomain(pub u8, pub u8, pub u8);
 
-#[repr(C)]
 #[derive(Clone, Copy, PartialEq, Eq)]
 pub struct KeyId {
     pub domain: KeyDomain,
@@ -30,14 +25,12 @@ pub struct KeyId {
 }
 
 // From TS low, which is outside, to TS high, which is inside.
-#[repr(C)]
 #[derive(Clone, Copy, PartialEq, Eq)]
 pub struct Interval {
     pub low: Timestamp,
     pub high: Timestamp,
 }
 
-#[repr(C)]
 #[derive(Clone, Copy, PartialEq, Eq)]
 pub struct RightName {
     pub id: KeyId,

@@ -6,7 +6,6 @@ use mathlib.Core.List.{List, [], ◌∷◌}
 use lib.ListN.{length, take}
 use lib.Dec.{ltb}
 use borrow.Author.Tests.{ltb-true}
-use native.Mathlib.Omega.{arith}
 use mir.Val.{Val}
 use denote.Laws.{Is}
 use Rattle.std.specs.Prelude.{if◌then◌else◌}

@@ -4,16 +4,19 @@ use Rattle.figures.specs.Limits.{key_bytes}
 use Rattle.frames.specs.Types.{Frame, LoadFrame, MessageFrame, ReportFrame, DeleteFrame}
 use Rattle.frames.specs.Numbers.{total}
 
--- 01, Frames: byte 0 is the kind
+-- 01, Frames: byte 0 is the kind: a load
 abbrev pub load_kind : ℕ
 load_kind = 0x01
 
+-- a short term message
 abbrev pub message_kind : ℕ
 message_kind = 0x02
 
+-- a report
 abbrev pub report_kind : ℕ
 report_kind = 0x03
 
+-- delete one right
 abbrev pub delete_kind : ℕ
 delete_kind = 0x04
 

@@ -42,10 +42,11 @@ spare_clear b = ltb b 4
 abbrev pub is_mark : ℕ → Bool
 is_mark b = ltb b 2
 
--- 01, Frames: where a load has its flags, and a message its mark
+-- 01, Frames: where a load has its flags
 abbrev pub flags_in : List ℕ → ℕ
 flags_in s = get_or (split load_widths 0 s) 9 0
 
+-- 01, Frames: where a message has its mark
 abbrev pub mark_in : List ℕ → ℕ
 mark_in s = get_or (split message_widths 0 s) 7 0
 

@@ -39,6 +39,7 @@ abbrev pub copied : Seen → List ℕ → List ℕ → Writing
 copied (Ok f) s u = if ltb (length u) (length s) then unwritten u else outcome (Ok (length s)) (s ++ drop (length s) u)
 copied (Err r) s u = outcome (Err r) u
 
+-- what reading a string and writing what was read leaves
 unfoldable pub copying : List ℕ → List ℕ → Writing
 copying s u = copied (seen s) s u
 

@@ -54,6 +54,7 @@ pub record Writing : Type 0 where
   pub answer : Written
   pub buffer : List ℕ
 
+-- the two together
 abbrev pub outcome : Written → List ℕ → Writing
 outcome r u = record { answer = r; buffer = u }
 

@@ -1,20 +1,22 @@
 -- A turn of `feed`'s loop, on plain values. Assumes nothing.
 use mathlib.Core.Path.{◌≡◌, refl, sym, ap, ap₂, ◌∙◌}
 use mathlib.Core.List.{List, [], ◌∷◌, ◌++◌, append_assoc, append-nil}
-use Prim.Native.Nat.{ℕ, suc, ◌+◌, ◌-◌, ◌≤◌, ◌<◌}
+use Prim.Native.Nat.{ℕ, zero, suc, ◌+◌, ◌-◌, ◌≤◌, ◌<◌}
 use native.Mathlib.Nat.{add-zero, sub-zero}
+use native.Mathlib.Numerals.{add-one}
 use native.Mathlib.Omega.{arith}
 use borrow.Author.Tests.{lt-ltb, le-ltb, ne_eqb}
 use lib.Dec.{ltb}
-use lib.ListN.{length, set, drop, get_or, length-append, drop_of_length-le}
+use lib.ListN.{length, set, take, drop, get_or, length-append, drop_of_length-le}
 use lib.Seq.{paste, drop-cons, take_at, take_all}
 use Rattle.places.proofs.Lists.{if_map}
 use Rattle.rules.specs.Pages.{Pages}
-use Rattle.lines.specs.Rows.{Filled, pushed}
+use Rattle.lines.specs.Rows.{Filled, pushed, all_pushed}
 use Rattle.lines.specs.Hex.{line_feed, printed, reply_line}
 use Rattle.lines.specs.Feeding.{Between, kept, answered, ended, longer, Run, still, onward, run, laid}
 use Rattle.std.proofs.lemmas.Slice.{drop-append-drop}
 use Rattle.lines.proofs.Printing.{printed_long}
+use Rattle.lines.proofs.Finding.{Plain}
 
 -- ## The next character
 
@@ -45,8 +47,17 @@ abbrev pub held : Pages → Filled → Between
 held b f = record { book = b; line = f.bytes; count = f.count }
 
 -- a character more in the row is one more in the state
-pub held_longer : (b : Pages) (n : ℕ) (f : Filled) (c : ℕ) → n ≡ kept → held b (pushed n f c) ≡ longer (held b f) c
+held_longer : (b : Pages) (n : ℕ) (f : Filled) (c : ℕ) → n ≡ kept → held b (pushed n f c) ≡ longer (held b f) c
 held_longer b n f c h = rw h (sym (if_map (held b) (ltb f.count kept) (record { bytes = set f.bytes f.count c; count = f.count + 1 }) f))
+
+abbrev pub all_longer : Between → List ℕ → Between
+all_longer s [] = s
+all_longer s (c ∷ cs) = all_longer (longer s c) cs
+
+pub held_all_longer : (b : Pages) (n : ℕ) (f : Filled) (cs : List ℕ) → n ≡ kept → held b (all_pushed n f cs) ≡ all_longer (held b f) cs
+held_all_longer b n f [] h = refl
+held_all_longer b n f (c ∷ cs) h =
+    held_all_longer b n (pushed n f c) cs h ∙ ap (λ (s : Between). all_longer s cs) (held_longer b n f c h)
 
 -- ## The loop
 
@@ -64,6 +75,7 @@ pub record Going (l o₀ : List ℕ) (s₀ : Between) (o : List ℕ) (s : Betwee
   pub many : length text ≡ made
   pub room : made ≤ length o₀
   pub is : o ≡ text ++ drop made o₀
+  pub within : used ≤ length l
   pub rest : run l s₀ (length o₀) ≡ shift used text (run (drop used l) s (length o₀ - made))
 
 module _ {l o₀ : List ℕ} {s₀ : Between} {o : List ℕ} {s : Between} {used made : ℕ} (g : Going l o₀ s₀ o s used made) where
@@ -89,6 +101,7 @@ module _ {l o₀ : List ℕ} {s₀ : Between} {o : List ℕ} {s : Between} {used
         text = g.text ++ p;
         many = length-append g.text p ∙ ap₂ ◌+◌ g.many n;
         room = omega arith;
+        within = omega arith;
         is = w ∙ laid_on p ∙ ap (λ (x : ℕ). (g.text ++ p) ++ drop (made + x) o₀) n;
         rest =
             g.rest
@@ -98,13 +111,14 @@ module _ {l o₀ : List ℕ} {s₀ : Between} {o : List ℕ} {s : Between} {used
       }
 
   -- any other character
-  pub going_char : used < length l → (get_or l used 0 ≡ line_feed → ⊥) → Going l o₀ s₀ o (longer s (get_or l used 0)) (used + 1) made
+  going_char : used < length l → (get_or l used 0 ≡ line_feed → ⊥) → Going l o₀ s₀ o (longer s (get_or l used 0)) (used + 1) made
   going_char h e =
       let s' = longer s (get_or l used 0) in
       record {
         text = g.text;
         many = g.many;
         room = g.room;
+        within = omega arith;
         is = g.is;
         rest =
             g.rest
@@ -132,3 +146,15 @@ module _ {l o₀ : List ℕ} {s₀ : Between} {o : List ℕ} {s : Between} {used
   pub going_full : used < length l → get_or l used 0 ≡ line_feed → length o₀ - made < reply_line
       → record { state = s; used = used; made = made; buffer = o } ≡ laid (run l s₀ (length o₀)) o₀
   going_full h e r = stopped (run-full l s (length o₀ - made) used h e r)
+
+-- characters that are no line feed, taken at once
+pub going_chars : (n : ℕ) {l o₀ : List ℕ} {s₀ : Between} {o : List ℕ} {s : Between} {used made : ℕ} → Going l o₀ s₀ o s used made → used + n ≤ length l
+    → Plain l used n → Going l o₀ s₀ o (all_longer s (take n (drop used l))) (used + n) made
+going_chars zero {used = used} g h f = rw (add-zero used) g
+going_chars (suc n) {l} {s = s} {used = used} g h f =
+    let c = get_or l used 0 in
+    let e : drop used l ≡ c ∷ drop (used + 1) l = rw add-one (drop-cons l used 0 (omega arith)) in
+    let m : used + suc n ≡ used + 1 + n = omega arith in
+    let first = going_char g (omega arith) (rw (add-zero used) at (f 0 (omega arith))) in
+    let later : Plain l (used + 1) n = λ k i. let j : used + 1 + k ≡ used + suc k = omega arith in rw j (f (suc k) (omega arith)) in
+    rw (m, e) (going_chars n first (omega arith) later)

@@ -2,6 +2,7 @@
 mod Stores
 mod Spelling
 mod Answering
+mod Finding
 mod Going
 mod Whole
 pub mod Printing

@@ -1,21 +1,25 @@
 -- Laws of hexadecimal lines. Assumes nothing.
 use mathlib.Core.Path.{◌≡◌, refl, sym, ap, ◌∙◌}
+use mathlib.Core.Logic.{⊎_elim}
 use mathlib.Core.Bool.{Bool, true, false, ◌&&◌}
 use mathlib.Core.List.{List, [], ◌∷◌, ◌++◌, append_assoc}
 use Prim.Native.Nat.{ℕ, zero, suc, ◌+◌, ◌*◌, ◌/◌, ◌%◌, ◌≤◌, ◌<◌}
 use native.Mathlib.Omega.{arith}
 use native.Mathlib.Numerals.{add-one}
 use borrow.Author.Tests.{lt-ltb, le-ltb, eq-eqb, ne_eqb}
-use lib.Dec.{eqb}
-use lib.ListN.{length, take, drop, get_or, length-append, drop_of_length-le}
-use lib.Seq.{drop-cons, take-suc, take_all, length-take-le}
-use Rattle.std.proofs.Math.Bool.{or-true}
-use Rattle.std.specs.Prelude.{Option, None, Some, if◌then◌else◌}
+use lib.Bits.{bit_or}
+use lib.Dec.{eqb, ltb}
+use lib.ListN.{length, take, drop, get_or, set, length-append, drop_of_length-le}
+use lib.Seq.{drop-cons, take-suc, length-take-le}
+use Rattle.std.proofs.Math.Bool.{or-true, and_assoc}
+use Rattle.std.proofs.lemmas.Bool.{cases_lt}
+use Rattle.std.proofs.lemmas.Nat.{or_lt, le_or_l, le_or_r}
+use Rattle.std.specs.Prelude.{None, Some}
 use Rattle.std.specs.Simd.{first_chunks}
 use Rattle.figures.specs.Limits.{line_digits}
-use Rattle.lines.specs.Rows.{Filled, filled, pushed}
-use Rattle.lines.specs.Hex.{line_feed, digit_value, is_digit, byte_of, all_digits, pairs, damaged, spelt, decoding, glyph, hexadecimal}
-use Rattle.lines.proofs.Stores.{one_more, full}
+use Rattle.lines.specs.Rows.{filled}
+use Rattle.lines.specs.Hex.{digit_value, is_digit, all_digits, pairs, damaged, blank, spelt, decoding, glyph, hexadecimal}
+use Rattle.lines.proofs.Stores.{one_set}
 
 -- ## Damaged lines
 
@@ -86,42 +90,45 @@ pair-at (a ∷ b ∷ l) (suc n) (suc j) d h m =
     let f : 2 * suc j + 1 ≡ suc (suc (2 * j + 1)) = omega arith in
     rw (f, e) (pair-at l n j d (omega arith) (omega arith))
 
--- so its byte is theirs
-pub pair_byte : (l : List ℕ) (ps : List (List ℕ)) (n j : ℕ) (d : List ℕ) (r : Option ℕ) → ps ≡ first_chunks 2 n l
-    → r ≡ byte_of (get_or (get_or ps j d) 0 0) (get_or (get_or ps j d) 1 0) → j < n → 2 * j + 1 < length l
-    → r ≡ byte_of (get_or l (2 * j) 0) (get_or l (2 * j + 1) 0)
-pair_byte l ps n j d r f e h m = let q = pair-at l n j d h m in e ∙ rw (f, q.0, q.1)
+-- so what a pair of the chunks holds
+pub pair_chars : (l : List ℕ) (ps : List (List ℕ)) (n j : ℕ) (d : List ℕ) → ps ≡ first_chunks 2 n l → j < n → 2 * j + 1 < length l
+    → (get_or (get_or ps j d) 0 0 ≡ get_or l (2 * j) 0) × (get_or (get_or ps j d) 1 0 ≡ get_or l (2 * j + 1) 0)
+pair_chars l ps n j d f h m = rw f (pair-at l n j d h m)
 
-not_both : (s t rest : Bool) (n : ℕ) → (if s && t then Some n else None) ≡ None → (s && (t && rest)) ≡ false
-not_both true true rest n h = cc
-not_both true false rest n h = refl
-not_both false t rest n h = refl
+-- two values are of digits where what they have between them is below 16
+or_digits : (a b : ℕ) → ltb (bit_or a b) 16 ≡ (ltb a 16 && ltb b 16)
+or_digits a b = ⊎_elim first_is none (cases_lt a 16)
+  where
+    first_is : a < 16 → ltb (bit_or a b) 16 ≡ (ltb a 16 && ltb b 16)
+    first_is h =
+        ⊎_elim
+        (λ g. rw (lt-ltb a 16 h, lt-ltb b 16 g) (lt-ltb (bit_or a b) 16 (or_lt 4 a b h g)))
+        (λ g. rw (lt-ltb a 16 h, le-ltb b 16 g) (le-ltb (bit_or a b) 16 (omega (arith, le_or_r a b))))
+        (cases_lt b 16)
 
-both : (s t rest : Bool) (n v : ℕ) → (if s && t then Some n else None) ≡ Some v → ((s && (t && rest)) ≡ rest) × (v ≡ n)
-both true true rest n v h = (refl, cc)
-both true false rest n v h = cc
-both false t rest n v h = cc
+    none : 16 ≤ a → ltb (bit_or a b) 16 ≡ (ltb a 16 && ltb b 16)
+    none h = rw (le-ltb a 16 h) (le-ltb (bit_or a b) 16 (omega (arith, le_or_l a b)))
 
--- what the loop finds at the next two characters, and one byte more
-module _ (l : List ℕ) (j : ℕ) (h : 2 * j + 1 < length l) (e : all_digits (drop (2 * j) l) ≡ all_digits l) where
-  pub bad_pair : byte_of (get_or l (2 * j) 0) (get_or l (2 * j + 1) 0) ≡ None → all_digits l ≡ false
-  bad_pair g =
-      sym e
-      ∙ all_two l (2 * j) h
-      ∙ not_both (is_digit (get_or l (2 * j) 0)) (is_digit (get_or l (2 * j + 1) 0)) (all_digits (drop (2 * j + 2) l)) _ g
-
-  pub good_pair : (v : ℕ) → byte_of (get_or l (2 * j) 0) (get_or l (2 * j + 1) 0) ≡ Some v
-      → (all_digits (drop (2 * (j + 1)) l) ≡ all_digits l) × (take (j + 1) (pairs l) ≡ take j (pairs l) ++ (v ∷ []))
-  good_pair v g =
+-- what the loop makes of the next two characters, whose values are x and y
+module _ (l : List ℕ) (j x y : ℕ) (h : 2 * j + 1 < length l) (e : x ≡ digit_value (get_or l (2 * j) 0)) (f : y ≡ digit_value (get_or l (2 * j + 1) 0)) where
+  pub next_digits : (w : ℕ) → (ltb w 16 && all_digits (drop (2 * j) l)) ≡ all_digits l
+      → (ltb (bit_or w (bit_or x y)) 16 && all_digits (drop (2 * (j + 1)) l)) ≡ all_digits l
+  next_digits w g =
       let n : 2 * (j + 1) ≡ 2 * j + 2 = omega arith in
-      let m : length (pairs l) ≡ length l / 2 = length_pairs l in
-      let b = both (is_digit (get_or l (2 * j) 0)) (is_digit (get_or l (2 * j + 1) 0)) (all_digits (drop (2 * j + 2) l)) _ v g in (
-        rw n (sym (all_two l (2 * j) h ∙ b.0) ∙ e),
-        rw (add-one, take-suc (pairs l) j 0 (omega arith), pairs-at l j h, b.1),
-      )
+      let r = all_digits (drop (2 * j + 2) l) in
+      let t : ((ltb x 16 && ltb y 16) && r) ≡ all_digits (drop (2 * j) l) = and_assoc (ltb x 16) (ltb y 16) r ∙ rw (e, f) (sym (all_two l (2 * j) h)) in
+      rw (n, or_digits w (bit_or x y), or_digits x y)
+      (and_assoc (ltb w 16) (ltb x 16 && ltb y 16) r ∙ ap (λ (b : Bool). ltb w 16 && b) t ∙ g)
 
-pub so_many : (l : List ℕ) (j : ℕ) → 2 * j ≤ length l → length (take j (pairs l)) ≡ j
-so_many l j h = let m : length (pairs l) ≡ length l / 2 = length_pairs l in length-take-le j (pairs l) (omega arith)
+  pub next_byte : (bytes : List ℕ) → x < 16 → y < 16 → length l ≤ line_digits → bytes ≡ (spelt (take j (pairs l))).bytes
+      → set bytes j ((x * 16 % 256 + y) % 256) ≡ (spelt (take (j + 1) (pairs l))).bytes
+  next_byte bytes p q k s =
+      let bs = take j (pairs l) in
+      let m : length (pairs l) ≡ length l / 2 = length_pairs l in
+      let n : length bs ≡ j = length-take-le j (pairs l) (omega arith) in
+      let v : (x * 16 % 256 + y) % 256 ≡ x * 16 + y = omega arith in
+      let t : take (j + 1) (pairs l) ≡ bs ++ ((x * 16 + y) ∷ []) = rw (add-one, take-suc (pairs l) j 0 (omega arith), pairs-at l j h, e, f) refl in
+      rw (s, v, t) (ap (λ (i : ℕ). set (spelt bs).bytes i (x * 16 + y)) (sym n) ∙ one_set blank bs (x * 16 + y) (omega arith))
 
 pub all_done : (l : List ℕ) (j : ℕ) → length l ≤ 2 * j → all_digits (drop (2 * j) l) ≡ all_digits l → all_digits l ≡ true
 all_done l j h e = sym e ∙ ap all_digits (drop_of_length-le l h)
@@ -136,30 +143,19 @@ pub length-hex : (a : List ℕ) → length (hexadecimal a) ≡ 2 * length a
 length-hex [] = refl
 length-hex (x ∷ a) = let e : length (hexadecimal a) ≡ 2 * length a = length-hex a in omega arith
 
-module _ (l r : List ℕ) (i : ℕ) (k : length l ≡ 2 * length r + 1) where
-  hex_many : i ≤ length r → length (hexadecimal (take i r)) ≡ 2 * i
-  hex_many h = length-hex (take i r) ∙ ap (λ (n : ℕ). 2 * n) (length-take-le i r h)
-
-  -- one byte more of a reply, in a row that holds l
-  pub hex_more : i < length r
-      → pushed (length l) (pushed (length l) (filled l (hexadecimal (take i r))) (glyph (get_or r i 0 / 16))) (glyph (get_or r i 0 % 16))
-      ≡ filled l (hexadecimal (take (i + 1) r))
-  hex_more h =
-      let t = hexadecimal (take i r) in
-      let x = glyph (get_or r i 0 / 16) in
-      let y = glyph (get_or r i 0 % 16) in
-      let m : length t ≡ 2 * i = hex_many (omega arith) in
-      let n : length (t ++ (x ∷ [])) ≡ length t + 1 = length-append t (x ∷ []) in
-      let e : (t ++ (x ∷ [])) ++ (y ∷ []) ≡ hexadecimal (take (i + 1) r) =
-      append_assoc t (x ∷ []) (y ∷ []) ∙ rw (add-one, take-suc r i 0 h) (sym (hex-append (take i r) (get_or r i 0 ∷ []))) in
-      ap (λ (f : Filled). pushed (length l) f y) (one_more l t x (omega arith)) ∙ one_more l (t ++ (x ∷ [])) y (omega arith) ∙ ap (filled l) e
-
-  -- and the line feed
-  pub hex_done : length r ≡ i → (pushed (length l) (filled l (hexadecimal (take i r))) line_feed).bytes ≡ hexadecimal r ++ (line_feed ∷ [])
-  hex_done h =
-      let t = hexadecimal (take i r) in
-      let m : length t ≡ 2 * i = hex_many (omega arith) in
-      let n : length (t ++ (line_feed ∷ [])) ≡ length t + 1 = length-append t (line_feed ∷ []) in
-      ap (λ (f : Filled). f.bytes) (one_more l t line_feed (omega arith))
-      ∙ full l (t ++ (line_feed ∷ [])) (omega arith)
-      ∙ ap (λ (x : List ℕ). hexadecimal x ++ (line_feed ∷ [])) (take_all i r (omega arith))
+-- one byte more, where the digits of those before it stand at the front of l
+pub hex_more : (l r : List ℕ) (i : ℕ) → 2 * length r ≤ length l → i < length r
+    → set (set (filled l (hexadecimal (take i r))).bytes (2 * i) (glyph (get_or r i 0 / 16))) (2 * i + 1) (glyph (get_or r i 0 % 16))
+    ≡ (filled l (hexadecimal (take (i + 1) r))).bytes
+hex_more l r i k h =
+    let t = hexadecimal (take i r) in
+    let x = glyph (get_or r i 0 / 16) in
+    let y = glyph (get_or r i 0 % 16) in
+    let m : length t ≡ 2 * i = length-hex (take i r) ∙ ap (λ (n : ℕ). 2 * n) (length-take-le i r (omega arith)) in
+    let n : length (t ++ (x ∷ [])) ≡ 2 * i + 1 = length-append t (x ∷ []) ∙ ap (λ (n : ℕ). n + 1) m in
+    let e : (t ++ (x ∷ [])) ++ (y ∷ []) ≡ hexadecimal (take (i + 1) r) =
+    append_assoc t (x ∷ []) (y ∷ []) ∙ rw (add-one, take-suc r i 0 h) (sym (hex-append (take i r) (get_or r i 0 ∷ []))) in
+    ap (λ (u : List ℕ). set u (2 * i + 1) y) (ap (λ (n : ℕ). set (filled l t).bytes n x) (sym m) ∙ one_set l t x (omega arith))
+    ∙ ap (λ (n : ℕ). set (filled l (t ++ (x ∷ []))).bytes n y) (sym n)
+    ∙ one_set l (t ++ (x ∷ [])) y (omega arith)
+    ∙ ap (λ (u : List ℕ). (filled l u).bytes) e

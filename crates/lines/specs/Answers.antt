@@ -5,7 +5,7 @@ use Rattle.rules.specs.Pages.{Pages}
 use Rattle.rules.specs.Calls.{After, unchanged}
 use Rattle.rules.specs.Rules.{call}
 use Rattle.book.specs.Pages.{pages}
-use Rattle.lines.specs.Types.{Called, Refused, Unreadable}
+use Rattle.lines.specs.Types.{Book, Reply, Refused, Unreadable}
 use Rattle.lines.specs.Hex.{damaged, pairs}
 
 -- the key buffer of 16 bytes that a line lends
@@ -16,7 +16,7 @@ lent = replicate key_bytes 0
 unfoldable pub answer : Pages → List ℕ → After
 answer b l = if damaged l then unchanged b lent (Refused Unreadable) else call b (pairs l) lent
 
--- what a call answers, but for the buffer
-pub record Gives (c : Called) (a : After) : Type 0 where
-  pub book : pages c.book ≡ a.book
-  pub reply : c.reply ≡ a.reply
+-- the book and the reply of a call, but for the buffer
+pub record Gives (b : Book) (r : Reply) (a : After) : Type 0 where
+  pub book : pages b ≡ a.book
+  pub reply : r ≡ a.reply

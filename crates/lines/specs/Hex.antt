@@ -21,17 +21,9 @@ digit_value c =
 abbrev pub is_digit : ℕ → Bool
 is_digit c = ltb (digit_value c) 16
 
--- the value of a digit, and none of another character
-abbrev pub digit_of : ℕ → Option ℕ
-digit_of c = if is_digit c then Some (digit_value c) else None
-
 -- what two digits are worth
 abbrev pub worth : ℕ → ℕ → ℕ
 worth a b = digit_value a * 16 + digit_value b
-
--- the byte of two digits, and none where one is another character
-abbrev pub byte_of : ℕ → ℕ → Option ℕ
-byte_of a b = if is_digit a && is_digit b then Some (worth a b) else None
 
 abbrev pub all_digits : List ℕ → Bool
 all_digits [] = true

@@ -2,7 +2,6 @@
 pub use Rattle.lines.specs.declared.State.{State}
 pub use Rattle.lines.specs.declared.Fed.{Fed}
 pub use Rattle.book.specs.declared.Book.{Book}
-pub use Rattle.book.specs.declared.Called.{Called}
 pub use Rattle.figures.specs.declared.replies.Refusal.TheVariants.{Unreadable}
 pub use Rattle.figures.specs.declared.replies.Reply.{Reply}
 pub use Rattle.figures.specs.declared.replies.Reply.TheVariants.{Loaded, Deleted, Granted, Reported, OverHeld, OverNew, Refused}

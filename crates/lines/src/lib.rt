@@ -9,10 +9,11 @@ ghost use Rattle.book.specs.Pages.{pages};
 ghost use Rattle.lines.specs.Answers.{answer, Gives};
 ghost use Rattle.lines.specs.Feeding.{answered, ended, seen, left, started, feeding, finishing};
 
-use book::{Book, Called};
+use book::Book;
 use figures::limits::{KEY_BYTES, LINE_DIGITS};
 use figures::replies::{Refusal, Reply};
 use hex::{LINE_FEED, REPLY_LINE};
+use memchr::memchr;
 use rows::Row;
 
 // One more than the longest line: a line with so many characters is damaged whatever follows.
@@ -34,17 +35,14 @@ pub struct Fed {
 }
 
 // The book's answer to a line, lending it a key buffer; a damaged line does not reach the book.
-fn reply_to(book: Book, line: &[u8]) -> Called
-    ensures { Gives result (answer (pages book) line.now) }
+fn reply_to(book: &mut Book, line: &[u8]) -> Reply
+    ensures { Gives book.new result (answer (pages book.old) line.now) }
 {
     let Some(frame) = hex::decode(line) else {
-        return Called {
-            book,
-            reply: Reply::Refused(Refusal::Unreadable),
-        };
+        return Reply::Refused(Refusal::Unreadable);
     };
     let mut key = [0u8; KEY_BYTES];
-    book.call(frame.as_slice(), &mut key)
+    book.serve(frame.as_slice(), &mut key)
 }
 
 impl State {
@@ -53,11 +51,9 @@ impl State {
         ensures state { seen self.new ≡ ended (seen self.old) }
         ensures reply { result ≡ (answered (seen self.old)).reply }
     {
-        let called = reply_to(self.book, self.line.as_slice());
-        let book = called.book;
-        self.book = book;
+        let reply = reply_to(&mut self.book, self.line.as_slice());
         self.line.clear();
-        called.reply
+        reply
     }
 }
 
@@ -75,18 +71,23 @@ pub fn feed(mut state: State, input: &[u8], out: &mut [u8]) -> Fed
     ensures { left result out.new ≡ feeding (seen state) input.now out.old }
 {
     let mut made = 0;
-    for (used, c) in input.iter().enumerate() {
-        if *c != LINE_FEED {
-            state.line.push(*c);
-            continue;
-        }
+    let mut used = 0;
+    while let Some(ahead) = memchr(LINE_FEED, &input[used..]) {
+        let end = used + ahead;
+        state.line.push_all(&input[used..end]);
         if out.len() - made < REPLY_LINE {
-            return Fed { state, used, made };
+            return Fed {
+                state,
+                used: end,
+                made,
+            };
         }
         let line = hex::reply_line(state.end_line());
         out[made..made + REPLY_LINE].copy_from_slice(&line);
         made += REPLY_LINE;
+        used = end + 1;
     }
+    state.line.push_all(&input[used..]);
     let used = input.len();
     Fed { state, used, made }
 }

@@ -2,7 +2,7 @@
 #![tactic(auto)]
 
 ghost use Rattle.std.specs.Prelude.{◌≡◌, ◌≤◌, ◌==◌, [], take, replicate};
-ghost use Rattle.lines.specs.Rows.{Filled, filled, pushed};
+ghost use Rattle.lines.specs.Rows.{Filled, filled, all_pushed};
 
 use std::marker::Model;
 
@@ -34,6 +34,14 @@ impl<const N: usize> Row<N> {
         }
     }
 
+    // So many bytes have come.
+    pub(crate) fn holding(bytes: [u8; N], count: usize) -> Self
+        requires { count ≤ N }
+        ensures { result ≡ record { bytes = bytes.entry; count = count } }
+    {
+        Row { bytes, count }
+    }
+
     pub(crate) fn is_empty(&self) -> bool
         ensures { result ≡ (self.now.count == 0) }
     {
@@ -54,14 +62,15 @@ impl<const N: usize> Row<N> {
         self.bytes
     }
 
-    // One byte more; a full row stays as it is.
-    pub(crate) fn push(&mut self, byte: u8)
-        ensures { self.new ≡ pushed N self.old byte }
+    // Bytes more; what a full row has no room for is dropped.
+    pub(crate) fn push_all(&mut self, bytes: &[u8])
+        ensures { self.new ≡ all_pushed N self.old bytes.now }
     {
-        if self.count < N {
-            self.bytes[self.count] = byte;
-            self.count += 1;
-        }
+        let fit = bytes.len().min(N - self.count);
+        let end = self.count + fit;
+        let row = &mut self.bytes[..];
+        row[self.count..end].copy_from_slice(&bytes[..fit]);
+        self.count = end;
     }
 
     // Nothing has come; what was there stays behind.

@@ -4,10 +4,12 @@ use Rattle.places.specs.Types.{Option, Some, None, Verdict, Passed, Failed}
 
 -- ## What a check's answer says of a refusal's test
 
+-- a look-up found no place
 abbrev pub missing : Option ℕ → Bool
 missing (Some i) = false
 missing None = true
 
+-- a check did not pass
 abbrev pub failed : Verdict → Bool
 failed Passed = false
 failed Failed = true

@@ -30,7 +30,7 @@ use Rattle.rules.specs.Rules.{step, call}
 use Rattle.rules.specs.Sound.{fair, Sound, Reached, empty, by_call}
 use Rattle.rules.proofs.Refusals.{Passed}
 use Rattle.rules.proofs.View.{Done, refused, was_loaded, was_erased, was_granted, was_reported, was_dropped, step_done, call_done}
-use Rattle.rules.proofs.Accepted.{Sort, load_sort, key_has_room, right_has_room, load_within, message_keyed}
+use Rattle.rules.proofs.Unrefused.{Sort, load_sort, key_has_room, right_has_room, load_within, message_keyed}
 use Rattle.rules.proofs.Payer.{payer-held}
 
 -- ## Accounts

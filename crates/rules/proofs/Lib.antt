@@ -1,7 +1,7 @@
 -- The theorems on the rules, for the proofs of the crates above.
 pub mod Refusals
 pub mod View
-pub mod Accepted
+pub mod Unrefused
 pub mod Payer
 pub mod Kept
 pub mod ByPlace

@@ -35,7 +35,7 @@ use Rattle.rules.specs.OneCall.{Gone, Takes, Fits, Replays, as_live, as_playback
 use Rattle.rules.proofs.Refusals.{Passed, passed}
 use Rattle.rules.proofs.View.{plain, over, Done, refused, was_loaded, was_erased, was_granted, was_reported, was_dropped, call_done, call_step}
 use Rattle.rules.proofs.ByPlace.{only_put, gone_put_all, gone_put, takes, takes_in, key_found, right_found, free_key_found, free_right_found}
-use Rattle.rules.proofs.Accepted.{Sort, load_sort, load_costless, load_proper, load_keyed, key_has_room, right_has_room, erase_no_flag, erase_no_figure, erase-held, message_good, message_keyed, report-held, delete-held}
+use Rattle.rules.proofs.Unrefused.{Sort, load_sort, load_costless, load_proper, load_keyed, key_has_room, right_has_room, erase_no_flag, erase_no_figure, erase-held, message_good, message_keyed, report-held, delete-held}
 use Rattle.rules.proofs.Payer.{payer_found, payer-fits, payer-can_pay, payer_lowest, payer_in}
 use Rattle.rules.proofs.Kept.{sixteen}
 

@@ -9,22 +9,23 @@ use Rattle.rules.specs.Types.{RightName, Account, Key, Load, Reply, Loaded, Over
 use Rattle.rules.specs.Pages.{Pages, key_at, right_at, key_in, right_in, key_room, right_room, purse_of, user_purse, as_held}
 use Rattle.rules.specs.Calls.{After, Check, ◌⇒◌∣◌, unless}
 
--- an SPE that a right may be loaded with
+-- 01, Replies, 12: an SPE that a right may be loaded with
 unfoldable pub loadable : Pages → ℕ → Bool
 loadable b s = holds_right s
 
--- the account of the right before the load; none held counts from 0
+-- 01, What a load does: the account of the right before it; none held counts from 0
 unfoldable pub account_before : Pages → RightName → Account
 account_before b n = (right_in b (right_at b n)).account
 
--- the counter or purse would pass its limit
+-- 01, Replies, 17: the counter or purse would pass its limit
 unfoldable pub over_limit : Pages → Load → Bool
 over_limit b l = over_by (credit_in l) l (account_before b l.name) (purse_of b l.name)
 
--- right held: as held; else FF, 0, purse, 0
+-- 01, Replies, 17: right held: as held; else FF, 0, purse, 0
 unfoldable pub over_reply : Pages → RightName → Reply
 over_reply b n = if missing (right_at b n) then OverNew (user_purse b) else OverHeld (as_held b (key_at b n.id) (right_at b n))
 
+-- 01, Replies: load: 12, 13, 14, 15, 16, 17
 unfoldable pub load_refusals : Pages → Load → List Check
 load_refusals b l =
     not (loadable b l.name.spe) ⇒ Refused Policy
@@ -36,11 +37,11 @@ load_refusals b l =
     ∣ over_limit b l ⇒ over_reply b l.name
     ∣ []
 
--- the key that a load leaves: a new ID starts from a free place, and so with replay counter 0
+-- 01, What a load does: a new ID starts with replay counter 0, that of a free place; a key that is carried replaces the ID's
 unfoldable pub key_after : Pages → Load → List ℕ → Key
 key_after b l key = loaded_key l.name.id l.flags.key key (key_in b (key_at b l.name.id))
 
--- the key, the right and the purse that a load leaves
+-- 01, What a load does: the key, the right and the purse that it leaves
 unfoldable pub loaded : Pages → Load → List ℕ → Pages
 loaded b l key =
     record {
@@ -49,6 +50,7 @@ loaded b l key =
       purse = purse_by (credit_in l) l (purse_of b l.name);
     }
 
+-- 01, Replies, 00: load done, as held
 unfoldable pub store : Pages → List ℕ → Load → List ℕ → After
 store b u l key =
     let after = loaded b l key in

@@ -8,11 +8,11 @@ use Rattle.rules.specs.Types.{Option, Timestamp, KeyId, Right, Message, Granted,
 use Rattle.rules.specs.Pages.{Pages, key_at, key_in, right_in, purse_of, as_held}
 use Rattle.rules.specs.Calls.{After, Check, ◌⇒◌∣◌, unless}
 
--- the replay counter of the message's key
+-- 01, What a short term message does: the key's replay counter
 unfoldable pub replay_of : Pages → KeyId → Timestamp
 replay_of b i = (key_in b (key_at b i)).replay
 
--- a right fits the message, live or playback by the replay counter
+-- a right fits the message, and is live or playback as the message is
 unfoldable pub fitting : Pages → Message → Right → Bool
 fitting b m r = fits m (replay_of b m.id) r
 
@@ -20,10 +20,11 @@ fitting b m r = fits m (replay_of b m.id) r
 unfoldable pub paying : Pages → Message → Right → Bool
 paying b m r = fitting b m r && can_pay (purse_of b r.name) r.account
 
--- who is charged: the fitting right in the lowest place that can pay
+-- the fitting right in the lowest place that can pay is charged
 unfoldable pub payer : Pages → Message → Option ℕ
 payer b m = first (λ r. paying b m r) b.rights
 
+-- 01, Replies: short term message: 18, 15, 19, 1A
 unfoldable pub message_refusals : Pages → Message → List Check
 message_refusals b m =
     not m.good ⇒ Refused Integrity
@@ -47,5 +48,6 @@ grant b k r ts =
     let after = granted b k r ts in
     record { book = after; reply = Granted (as_held after k r); buffer = (key_in b k).bytes }
 
+-- 01, Replies, 01: granted, as held
 unfoldable pub message : Pages → List ℕ → Message → After
 message b u m = unless b u (message_refusals b m) (grant b (key_at b m.id) (payer b m) m.ts)

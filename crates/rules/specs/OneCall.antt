@@ -46,6 +46,7 @@ pub record Empty (b : Pages) : Type 0 where
   pub free_rights : (j : ℕ) → (right_in b (Some j)).held ≡ false
   pub no_tokens : b.purse.0 ≡ 0
 
+-- of any size
 abbrev pub EmptyBook : Type 0
 EmptyBook = (z : Sizes) → Empty (blank z)
 
@@ -78,6 +79,7 @@ pub record NothingElse (k p : ℕ) (before after : Pages) : Type 0 where
   pub right-held : (right_in after (Some p)).held ≡ true
   pub right_name : (right_in after (Some p)).name ≡ (right_in before (Some p)).name
 
+-- code 01, place by place
 pub record Grant (b : Pages) (s : List ℕ) (a : After) : Type 0 where
   pub message : Message
   pub k : ℕ
@@ -120,6 +122,7 @@ pub data Settles (l : Load) (was : Right) (purse : Tokens) : Account → Tokens 
   purse-set : {t : Tokens} → is_purse l.name.spe ≡ true → l.flags.add ≡ false → t.0 ≡ l.amount → Settles l was purse (Purse l.cost) t
   purse-raised : {t : Tokens} → is_purse l.name.spe ≡ true → l.flags.add ≡ true → t.0 ≡ purse.0 + l.amount → Settles l was purse (Purse l.cost) t
 
+-- code 00 of a load other than with SPE 0A, place by place
 pub record Loading (b : Pages) (s : List ℕ) (a : After) : Type 0 where
   pub load : Load
   pub k : ℕ
@@ -166,6 +169,7 @@ pub record Deletion (b : Pages) (s : List ℕ) (a : After) : Type 0 where
   pub purse : a.book.purse ≡ b.purse
   pub reply : a.reply ≡ Deleted b.purse
 
+-- a report of a held right alters nothing
 pub record Report (b : Pages) (s : List ℕ) (a : After) : Type 0 where
   pub name : RightName
   pub k : ℕ
@@ -188,6 +192,7 @@ pub data Over (b : Pages) (n : RightName) : Reply → Type 0 where
   right-held : (k p : ℕ) → is_key n.id (key_in b (Some k)) ≡ true → is_right n (right_in b (Some p)) ≡ true → Over b n (OverHeld (shown b k p))
   right_new : ((j : ℕ) → is_right n (right_in b (Some j)) ≡ false) → Over b n (OverNew b.purse)
 
+-- one case for each way that a call ends
 pub data Outcome (b : Pages) (s u : List ℕ) (a : After) : Type 0 where
   refused : (r : Refusal) → a.reply ≡ Refused r → 0x10 ≤ code a.reply → Unchanged b u a → Outcome b s u a
   limit_passed : (l : Load) → (reading s).frame ≡ Ok (LoadFrame l) → Over b l.name a.reply → code a.reply ≡ 0x17 → Unchanged b u a → Outcome b s u a

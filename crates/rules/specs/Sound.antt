@@ -9,11 +9,12 @@ use Rattle.rules.specs.Types.{Some, KeyId, Account, Counted, Purse}
 use Rattle.rules.specs.Pages.{Pages, Sizes, blank, key_at, key_in, right_in}
 use Rattle.rules.specs.Rules.{call}
 
--- the account is of the SPE's sort, and a counter within its limit
+-- 01, Rights, the table: the account is of the SPE's sort, and a counter within its limit
 unfoldable pub fair : ℕ → Account → Bool
 fair s (Counted left) = is_counted s && leb left.0 (count_limit s).0
 fair s (Purse cost) = is_purse s
 
+-- of a book with so many places
 pub record Sound (z : Sizes) (b : Pages) : Type 0 where
   -- the book has its key places and its right places
   pub key_place_count : length b.keys ≡ z.keys

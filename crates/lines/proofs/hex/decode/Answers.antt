@@ -1,18 +1,12 @@
-use Rattle.std.proofs.Common.{◌≡◌, ◌+◌, ◌*◌, ◌/◌, Some, length, take, get_or, sym, ap, ◌∙◌, arith}
+use Rattle.std.proofs.Common.{◌≡◌, ◌+◌, ◌*◌, ◌/◌, Some, length, take, drop, get_or, bit_or, refl, sym, ap, ◌∙◌, arith}
+use borrow.Author.Tests.{lt-ltb, le-ltb}
 use lib.Seq.{take_all}
-use Rattle.lines.specs.Rows.{Filled, filled, pushed}
-use Rattle.lines.specs.Hex.{byte_of, pairs, blank}
-use Rattle.lines.proofs.Stores.{one_more}
+use Rattle.std.proofs.lemmas.Nat.{le_or_l, le_or_r}
+use Rattle.lines.specs.Hex.{digit_value, all_digits, pairs}
 use Rattle.lines.proofs.Spelling.{damaged-empty, damaged_odd, damaged_long, damaged-other, sound, spells_none, spells_some}
-use Rattle.lines.proofs.Spelling.{pair_byte, bad_pair, good_pair, so_many, all_done, length_pairs}
+use Rattle.lines.proofs.Spelling.{pair_chars, next_digits, next_byte, all_done, length_pairs}
 use Rattle.lines.proofs.hex.decode.Goals as goal
-use Rattle.lines.proofs.hex.decode.Goals.{After-byte, then-is_empty-via-then-is_empty, then-is_empty-via-else-is_empty+then-line-eq1, then-is_empty-via-else-is_empty+else-line-eq1+then-line-gt-LINE_DIGITS}
-
--- the byte of the two characters that come
-its_byte : (c : After-byte) → c.byte.result ≡ byte_of (get_or c.args.line.now (2 * c.loop-pair.pair-index) 0) (get_or c.args.line.now (2 * c.loop-pair.pair-index + 1) 0)
-its_byte c =
-    let l = c.args.line.now in
-    pair_byte l _ (length l / 2) c.loop-pair.pair-index _ _ c.as_chunks.ensures.front c.byte.ensures (omega arith) (omega arith)
+use Rattle.lines.proofs.hex.decode.Goals.{then-is_empty-via-then-is_empty, then-is_empty-via-else-is_empty+then-line-eq1, then-is_empty-via-else-is_empty+else-line-eq1+then-line-gt-LINE_DIGITS}
 
 pub returns-then-is_empty : goal.returns-then-is_empty
 returns-then-is_empty c =
@@ -23,35 +17,40 @@ returns-then-is_empty c =
       | then-is_empty-via-else-is_empty+else-line-eq1+then-line-gt-LINE_DIGITS w ↦ damaged_long l (omega arith)
     ])
 
-pub returns-in_err-byte : goal.returns-in_err-byte
-returns-in_err-byte c =
-    let b = its_byte (goal.at.returns-in_err-byte c).After-byte in
+pub loop-i-preserved : goal.loop-i-preserved
+loop-i-preserved c =
     let l = c.args.line.now in
-    let p = c.loop-pair in
-    let bad = bad_pair l p.pair-index (omega arith) p.invariant.digits (sym b ∙ c.in_err-byte.was) in
-    c.from_residual.ensures ∙ spells_none l (damaged-other l bad)
-
-pub loop-pair-preserved : goal.loop-pair-preserved
-loop-pair-preserved c =
-    let b = its_byte (goal.at.loop-pair-preserved c).After-byte in
-    let l = c.args.line.now in
-    let p = c.loop-pair in
-    let v = c.in_ok-byte.field-0 in
-    let good = good_pair l p.pair-index (omega arith) p.invariant.digits v (sym b ∙ c.in_ok-byte.was) in
-    let m : length (take p.pair-index (pairs l)) ≡ p.pair-index = so_many l p.pair-index (omega arith) in
+    let p = c.loop-i in
+    let x = c.digit-high.result in
+    let y = c.digit-low.result in
+    let q = pair_chars l _ (length l / 2) p.i _ c.as_chunks.ensures.front (omega arith) (omega arith) in
+    let e : x ≡ digit_value (get_or l (2 * p.i) 0) = c.digit-high.ensures ∙ ap digit_value q.0 in
+    let f : y ≡ digit_value (get_or l (2 * p.i + 1) 0) = c.digit-low.ensures ∙ ap digit_value q.1 in
     record {
-      digits = good.0;
-      bytes =
-          c.push.ensures
-          ∙ ap (λ (f : Filled). pushed (length blank) f v) p.invariant.bytes
-          ∙ one_more blank (take p.pair-index (pairs l)) v (omega arith)
-          ∙ ap (filled blank) (sym good.1);
+      digits = next_digits l p.i x y (omega arith) e f p.worst p.invariant.digits;
+      bytes = λ g.
+          next_byte l p.i x y (omega arith) e f p.bytes
+          (omega (arith, le_or_r p.worst (bit_or x y), le_or_l x y))
+          (omega (arith, le_or_r p.worst (bit_or x y), le_or_r x y))
+          (omega arith)
+          (p.invariant.bytes (omega (arith, le_or_l p.worst (bit_or x y))));
     }
+
+pub returns-then-worst-gt15 : goal.returns-then-worst-gt15
+returns-then-worst-gt15 c =
+    let l = c.args.line.now in
+    let p = c.loop-i in
+    let none = le-ltb p.worst 16 (omega arith) in
+    spells_none l (damaged-other l (rw none at (sym p.invariant.digits)))
 
 pub returns : goal.returns
 returns c =
     let l = c.args.line.now in
-    let p = c.loop-pair in
+    let p = c.loop-i in
     let m : length (pairs l) ≡ length l / 2 = length_pairs l in
-    ap Some (p.invariant.bytes ∙ ap (filled blank) (take_all p.pair-index (pairs l) (omega arith)))
-    ∙ spells_some l (sound l (sym c.is_empty.ensures ∙ c.if-is_empty.false) (omega arith) (omega arith) (all_done l p.pair-index (omega arith) p.invariant.digits))
+    let some = lt-ltb p.worst 16 (omega arith) in
+    let digits : all_digits (drop (2 * p.i) l) ≡ all_digits l = rw some at p.invariant.digits in
+    let whole : take p.i (pairs l) ≡ pairs l = take_all p.i (pairs l) (omega arith) in
+    let many : length c.as_chunks.result.0.now ≡ length (pairs l) = omega arith in
+    ap Some (c.holding.ensures ∙ rw (p.invariant.bytes (omega arith), whole, many) refl)
+    ∙ spells_some l (sound l (sym c.is_empty.ensures ∙ c.if-is_empty.false) (omega arith) (omega arith) (all_done l p.i (omega arith) digits))
