@@ -2,16 +2,14 @@
 use mathlib.Core.Path.{◌≡◌, refl, ap, ◌∙◌, sym}
 use mathlib.Core.Bool.{Bool, true, false}
 use mathlib.Core.List.{[], ◌∷◌}
-use lib.ListN.{length}
 use lib.Dec.{leb}
 use borrow.Author.Tests.{leb-true}
 use Rattle.std.specs.Prelude.{if◌then◌else◌}
-use Rattle.figures.specs.Limits.{reply_widths}
-use Rattle.frames.specs.Numbers.{total}
 use Rattle.rules.specs.Pages.{Pages}
-use Rattle.rules.specs.Replies.{reply_fields, code, reply_bytes}
+use Rattle.rules.specs.Replies.{reply_fields, code}
 use Rattle.rules.specs.Rules.{call}
 use Rattle.rules.proofs.OneCall.{refusals_alter_nothing as nothing-altered}
+use Rattle.lines.proofs.Printing.{reply_long}
 use Rattle.demands.specs.Types.{Refusal, BufferLength, Unreadable, Policy, Fields, EmptyInterval, UnknownId, Full, Integrity, NoFit, NoFunds, NotHeld, Reply, Loaded, Deleted, Granted, Reported, OverHeld, OverNew, Refused}
 use Rattle.demands.specs.Runs.{called, final}
 use Rattle.demands.specs.Demand1.{codes, among, EveryCallAnswers, RefusalsAlterNothing, accepted, RefusalsLeaveNoTrace}
@@ -39,16 +37,6 @@ reply-among (Reported s) = refl
 reply-among (OverHeld s) = refl
 reply-among (OverNew p) = refl
 reply-among (Refused r) = refusal_among r
-
-reply_long : (r : Reply) → length (reply_bytes r) ≡ total reply_widths
-unfolding reply_bytes reply_fields
-reply_long (Loaded s) = refl
-reply_long (Deleted p) = refl
-reply_long (Granted s) = refl
-reply_long (Reported s) = refl
-reply_long (OverHeld s) = refl
-reply_long (OverNew p) = refl
-reply_long (Refused r) = refl
 
 pub every_call_answers : EveryCallAnswers
 every_call_answers b s u = (reply-among (call b s u).reply, reply_long (call b s u).reply)

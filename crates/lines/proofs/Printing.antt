@@ -16,7 +16,7 @@ use Rattle.lines.specs.Hex.{line_feed, digit_value, all_digits, pairs, glyph, he
 use Rattle.lines.proofs.Spelling.{length-hex}
 
 -- a reply is 14 bytes
-reply_long : (r : Reply) → length (reply_bytes r) ≡ total reply_widths
+pub reply_long : (r : Reply) → length (reply_bytes r) ≡ total reply_widths
 unfolding reply_bytes reply_fields
 reply_long (Loaded s) = refl
 reply_long (Deleted purse) = refl
