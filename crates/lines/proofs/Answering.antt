@@ -9,9 +9,8 @@ use Rattle.std.specs.Prelude.{None, Some, if◌then◌else◌}
 use Rattle.rules.specs.Pages.{Pages}
 use Rattle.rules.specs.Calls.{unchanged}
 use Rattle.rules.specs.Rules.{call}
-use Rattle.lines.specs.Types.{Refused, Unreadable}
-use Rattle.lines.specs.Rows.{Filled}
-use Rattle.lines.specs.Hex.{damaged, pairs, blank, spelt, decoding}
+use Rattle.lines.specs.Types.{Row, Refused, Unreadable}
+use Rattle.lines.specs.Hex.{damaged, pairs, frame_bytes, blank, spelt, decoding}
 use Rattle.lines.specs.Answers.{lent, answer}
 
 module _ (b : Pages) (l : List ℕ) where
@@ -28,7 +27,7 @@ module _ (b : Pages) (l : List ℕ) where
       by_test true e = refl
       by_test false e = cc
 
-  pub calls : (f : Filled) → decoding l ≡ Some f → answer b l ≡ call b (take f.count f.bytes) lent
+  pub calls : (f : Row frame_bytes) → decoding l ≡ Some f → answer b l ≡ call b (take f.count f.bytes) lent
   unfolding answer decoding
   calls f h = by_test (damaged l) h
     where

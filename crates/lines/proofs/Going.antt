@@ -11,7 +11,8 @@ use lib.ListN.{length, set, take, drop, get_or, length-append, drop_of_length-le
 use lib.Seq.{paste, drop-cons, take_at, take_all}
 use Rattle.places.proofs.Lists.{if_map}
 use Rattle.rules.specs.Pages.{Pages}
-use Rattle.lines.specs.Rows.{Filled, pushed, all_pushed}
+use Rattle.lines.specs.Types.{Row}
+use Rattle.lines.specs.Rows.{pushed, all_pushed}
 use Rattle.lines.specs.Hex.{line_feed, printed, reply_line}
 use Rattle.lines.specs.Feeding.{Between, kept, answered, ended, longer, Run, still, onward, run, laid}
 use Rattle.std.proofs.lemmas.Slice.{drop-append-drop}
@@ -43,21 +44,20 @@ module _ (l : List ℕ) (s : Between) (room i : ℕ) where
     run_char e = rw (opened, ne_eqb (get_or l i 0) line_feed e, le-ltb room 0 (omega arith))
 
 -- a book, and a row with the line so far
-abbrev pub held : Pages → Filled → Between
-held b f = record { book = b; line = f.bytes; count = f.count }
+abbrev pub held : Pages → Row kept → Between
+held b r = record { book = b; line = r.bytes; count = r.count }
 
 -- a character more in the row is one more in the state
-held_longer : (b : Pages) (n : ℕ) (f : Filled) (c : ℕ) → n ≡ kept → held b (pushed n f c) ≡ longer (held b f) c
-held_longer b n f c h = rw h (sym (if_map (held b) (ltb f.count kept) (record { bytes = set f.bytes f.count c; count = f.count + 1 }) f))
+held_longer : (b : Pages) (r : Row kept) (c : ℕ) → held b (pushed r c) ≡ longer (held b r) c
+held_longer b r c = sym (if_map (held b) (ltb r.count kept) (record { bytes = set r.bytes r.count c; count = r.count + 1 }) r)
 
 abbrev pub all_longer : Between → List ℕ → Between
 all_longer s [] = s
 all_longer s (c ∷ cs) = all_longer (longer s c) cs
 
-pub held_all_longer : (b : Pages) (n : ℕ) (f : Filled) (cs : List ℕ) → n ≡ kept → held b (all_pushed n f cs) ≡ all_longer (held b f) cs
-held_all_longer b n f [] h = refl
-held_all_longer b n f (c ∷ cs) h =
-    held_all_longer b n (pushed n f c) cs h ∙ ap (λ (s : Between). all_longer s cs) (held_longer b n f c h)
+pub held_all_longer : (b : Pages) (r : Row kept) (cs : List ℕ) → held b (all_pushed r cs) ≡ all_longer (held b r) cs
+held_all_longer b r [] = refl
+held_all_longer b r (c ∷ cs) = held_all_longer b (pushed r c) cs ∙ ap (λ (s : Between). all_longer s cs) (held_longer b r c)
 
 -- ## The loop
 

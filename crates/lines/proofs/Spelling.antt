@@ -17,7 +17,7 @@ use Rattle.std.proofs.lemmas.Nat.{or_lt, le_or_l, le_or_r}
 use Rattle.std.specs.Prelude.{None, Some}
 use Rattle.std.specs.Simd.{first_chunks}
 use Rattle.figures.specs.Limits.{line_digits}
-use Rattle.lines.specs.Rows.{filled}
+use Rattle.lines.specs.Rows.{fronted}
 use Rattle.lines.specs.Hex.{digit_value, is_digit, all_digits, pairs, damaged, blank, spelt, decoding, glyph, hexadecimal}
 use Rattle.lines.proofs.Stores.{one_set}
 
@@ -120,15 +120,15 @@ module _ (l : List ℕ) (j x y : ℕ) (h : 2 * j + 1 < length l) (e : x ≡ digi
       rw (n, or_digits w (bit_or x y), or_digits x y)
       (and_assoc (ltb w 16) (ltb x 16 && ltb y 16) r ∙ ap (λ (b : Bool). ltb w 16 && b) t ∙ g)
 
-  pub next_byte : (bytes : List ℕ) → x < 16 → y < 16 → length l ≤ line_digits → bytes ≡ (spelt (take j (pairs l))).bytes
-      → set bytes j ((x * 16 % 256 + y) % 256) ≡ (spelt (take (j + 1) (pairs l))).bytes
+  pub next_byte : (bytes : List ℕ) → x < 16 → y < 16 → length l ≤ line_digits → bytes ≡ fronted blank (take j (pairs l))
+      → set bytes j ((x * 16 % 256 + y) % 256) ≡ fronted blank (take (j + 1) (pairs l))
   next_byte bytes p q k s =
       let bs = take j (pairs l) in
       let m : length (pairs l) ≡ length l / 2 = length_pairs l in
       let n : length bs ≡ j = length-take-le j (pairs l) (omega arith) in
       let v : (x * 16 % 256 + y) % 256 ≡ x * 16 + y = omega arith in
       let t : take (j + 1) (pairs l) ≡ bs ++ ((x * 16 + y) ∷ []) = rw (add-one, take-suc (pairs l) j 0 (omega arith), pairs-at l j h, e, f) refl in
-      rw (s, v, t) (ap (λ (i : ℕ). set (spelt bs).bytes i (x * 16 + y)) (sym n) ∙ one_set blank bs (x * 16 + y) (omega arith))
+      rw (s, v, t) (ap (λ (i : ℕ). set (fronted blank bs) i (x * 16 + y)) (sym n) ∙ one_set blank bs (x * 16 + y) (omega arith))
 
 pub all_done : (l : List ℕ) (j : ℕ) → length l ≤ 2 * j → all_digits (drop (2 * j) l) ≡ all_digits l → all_digits l ≡ true
 all_done l j h e = sym e ∙ ap all_digits (drop_of_length-le l h)
@@ -145,8 +145,8 @@ length-hex (x ∷ a) = let e : length (hexadecimal a) ≡ 2 * length a = length-
 
 -- one byte more, where the digits of those before it stand at the front of l
 pub hex_more : (l r : List ℕ) (i : ℕ) → 2 * length r ≤ length l → i < length r
-    → set (set (filled l (hexadecimal (take i r))).bytes (2 * i) (glyph (get_or r i 0 / 16))) (2 * i + 1) (glyph (get_or r i 0 % 16))
-    ≡ (filled l (hexadecimal (take (i + 1) r))).bytes
+    → set (set (fronted l (hexadecimal (take i r))) (2 * i) (glyph (get_or r i 0 / 16))) (2 * i + 1) (glyph (get_or r i 0 % 16))
+    ≡ fronted l (hexadecimal (take (i + 1) r))
 hex_more l r i k h =
     let t = hexadecimal (take i r) in
     let x = glyph (get_or r i 0 / 16) in
@@ -155,7 +155,7 @@ hex_more l r i k h =
     let n : length (t ++ (x ∷ [])) ≡ 2 * i + 1 = length-append t (x ∷ []) ∙ ap (λ (n : ℕ). n + 1) m in
     let e : (t ++ (x ∷ [])) ++ (y ∷ []) ≡ hexadecimal (take (i + 1) r) =
     append_assoc t (x ∷ []) (y ∷ []) ∙ rw (add-one, take-suc r i 0 h) (sym (hex-append (take i r) (get_or r i 0 ∷ []))) in
-    ap (λ (u : List ℕ). set u (2 * i + 1) y) (ap (λ (n : ℕ). set (filled l t).bytes n x) (sym m) ∙ one_set l t x (omega arith))
-    ∙ ap (λ (n : ℕ). set (filled l (t ++ (x ∷ []))).bytes n y) (sym n)
+    ap (λ (u : List ℕ). set u (2 * i + 1) y) (ap (λ (n : ℕ). set (fronted l t) n x) (sym m) ∙ one_set l t x (omega arith))
+    ∙ ap (λ (n : ℕ). set (fronted l (t ++ (x ∷ []))) n y) (sym n)
     ∙ one_set l (t ++ (x ∷ [])) y (omega arith)
-    ∙ ap (λ (u : List ℕ). (filled l u).bytes) e
+    ∙ ap (fronted l) e

@@ -3,8 +3,8 @@ use Rattle.std.specs.Prelude.{ℕ, ◌+◌, ◌-◌, ◌*◌, ◌/◌, ◌%◌, 
 use Rattle.figures.specs.Limits.{line_digits, reply_widths}
 use Rattle.frames.specs.Numbers.{total}
 use Rattle.rules.specs.Replies.{reply_bytes}
-use Rattle.lines.specs.Types.{Reply}
-use Rattle.lines.specs.Rows.{Filled, filled}
+use Rattle.lines.specs.Types.{Row, Reply}
+use Rattle.lines.specs.Rows.{filled}
 
 abbrev pub line_feed : ℕ
 line_feed = 10
@@ -39,15 +39,19 @@ pairs (a ∷ b ∷ cs) = worth a b ∷ pairs cs
 unfoldable pub damaged : List ℕ → Bool
 damaged l = eqb (length l) 0 || eqb (length l % 2) 1 || ltb line_digits (length l) || not (all_digits l)
 
--- as many bytes as the longest line spells, all zero
+-- as many bytes as the longest line spells
+abbrev pub frame_bytes : ℕ
+frame_bytes = line_digits / 2
+
+-- all zero
 abbrev pub blank : List ℕ
-blank = replicate (line_digits / 2) 0
+blank = replicate frame_bytes 0
 
 -- bytes at the front, and zeros after them
-abbrev pub spelt : List ℕ → Filled
+abbrev pub spelt : List ℕ → Row frame_bytes
 spelt bs = filled blank bs
 
-unfoldable pub decoding : List ℕ → Option Filled
+unfoldable pub decoding : List ℕ → Option (Row frame_bytes)
 decoding l = if damaged l then None else Some (spelt (pairs l))
 
 -- ## A reply as a line

@@ -2,25 +2,13 @@
 #![tactic(auto)]
 
 ghost use Rattle.std.specs.Prelude.{◌≡◌, ◌≤◌, ◌==◌, [], take, replicate};
-ghost use Rattle.lines.specs.Rows.{Filled, filled, all_pushed};
-
-use std::marker::Model;
+ghost use Rattle.lines.specs.Rows.{filled, all_pushed};
 
 // The bytes that have come stand at the front, and after them what was there before.
 #[derive(Clone, Copy)]
 pub struct Row<const N: usize> {
     bytes: [u8; N],
     count: usize,
-}
-
-impl<const N: usize> Model for Row<N> {
-    ghost Value = { Filled };
-
-    ghost view = { λ r. record { bytes = r.bytes; count = r.count } };
-
-    ghost invariant = { λ r. r.count ≤ N };
-
-    ghost inverse = { λ f. record { bytes = f.bytes; count = f.count } };
 }
 
 impl<const N: usize> Row<N> {
@@ -52,7 +40,7 @@ impl<const N: usize> Row<N> {
     pub fn as_slice(&self) -> &[u8]
         ensures { result.now ≡ take self.now.count self.now.bytes }
     {
-        &self.bytes[..self.count]
+        &self.bytes[..self.count.min(N)]
     }
 
     // The whole row.
@@ -64,13 +52,13 @@ impl<const N: usize> Row<N> {
 
     // Bytes more; what a full row has no room for is dropped.
     pub(crate) fn push_all(&mut self, bytes: &[u8])
-        ensures { self.new ≡ all_pushed N self.old bytes.now }
+        ensures { self.new ≡ all_pushed self.old bytes.now }
     {
-        let fit = bytes.len().min(N - self.count);
-        let end = self.count + fit;
+        let from = self.count.min(N);
+        let fit = bytes.len().min(N - from);
         let row = &mut self.bytes[..];
-        row[self.count..end].copy_from_slice(&bytes[..fit]);
-        self.count = end;
+        row[from..from + fit].copy_from_slice(&bytes[..fit]);
+        self.count += fit;
     }
 
     // Nothing has come; what was there stays behind.

@@ -1,7 +1,6 @@
 use Rattle.std.proofs.Common.{◌≡◌, ◌+◌, ◌-◌, length, take, drop, refl, ap, ◌∙◌, arith}
 use Rattle.std.proofs.lemmas.Slice.{put_mid-paste}
 use Rattle.book.specs.Pages.{pages}
-use Rattle.lines.specs.declared.TheConstants.{KEPT}
 use Rattle.lines.specs.Hex.{printed, reply_line}
 use Rattle.lines.specs.Feeding.{answered, seen, feeding}
 use Rattle.lines.proofs.Printing.{printed_long}
@@ -21,7 +20,7 @@ at_line_feed c =
     let b = pages p.state.book in
     let m : p.used + n - p.used ≡ n = omega arith in
     let e = rw m at c.push_all.ensures in
-    rw (ap (held b) e ∙ held_all_longer b KEPT p.state.line (take n (drop p.used l)) refl)
+    rw (ap (held b) e ∙ held_all_longer b p.state.line (take n (drop p.used l)))
     (going_chars n p.invariant (omega (arith, w.within)) w.plain)
 
 pub returns-then-out-made-lt-REPLY_LINE : goal.returns-then-out-made-lt-REPLY_LINE
@@ -51,4 +50,4 @@ returns c =
     let b = pages p.state.book in
     let m : p.used + n ≡ length l = omega arith in
     let g = rw m at (going_chars n p.invariant (omega arith) (none_left l p.used c.in_default.ensures)) in
-    rw (ap (held b) c.push_all-2.ensures ∙ held_all_longer b KEPT p.state.line (take n (drop p.used l)) refl) (going_end g refl)
+    rw (ap (held b) c.push_all-2.ensures ∙ held_all_longer b p.state.line (take n (drop p.used l))) (going_end g refl)
