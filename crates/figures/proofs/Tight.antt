@@ -17,6 +17,17 @@ use Rattle.figures.proofs.loads.Load.settled.Reads as Load-settled
 use Rattle.figures.proofs.loads.Load.right.Reads as Load-right
 use Rattle.figures.proofs.loads.Load.free_of_cost.Reads as Load-free-of-cost
 use Rattle.figures.proofs.loads.Load.bare.Reads as Load-bare
+use Rattle.figures.proofs.names.TokensPartialEq.eq.Reads as Tokens-eq
+use Rattle.figures.proofs.names.TrafficKeysPartialEq.eq.Reads as TrafficKeys-eq
+use Rattle.figures.proofs.names.TimestampPartialEq.eq.Reads as Timestamp-eq
+use Rattle.figures.proofs.names.KeyDomainPartialEq.eq.Reads as KeyDomain-eq
+use Rattle.figures.proofs.names.IntervalPartialEq.eq.Reads as Interval-eq
+use Rattle.figures.proofs.names.TokensPartialOrd.partial_cmp.Reads as Tokens-partial-cmp
+use Rattle.figures.proofs.names.TokensOrd.cmp.Reads as Tokens-cmp
+use Rattle.figures.proofs.names.TrafficKeysPartialOrd.partial_cmp.Reads as TrafficKeys-partial-cmp
+use Rattle.figures.proofs.names.TrafficKeysOrd.cmp.Reads as TrafficKeys-cmp
+use Rattle.figures.proofs.names.TimestampPartialOrd.partial_cmp.Reads as Timestamp-partial-cmp
+use Rattle.figures.proofs.names.TimestampOrd.cmp.Reads as Timestamp-cmp
 use Rattle.figures.proofs.names.KeyIdPartialEq.eq.Reads as KeyId-eq
 use Rattle.figures.proofs.names.RightNamePartialEq.eq.Reads as RightName-eq
 use Rattle.figures.proofs.names.Interval.covers.Reads as Interval-covers
@@ -29,6 +40,7 @@ use Rattle.figures.proofs.policies.is_deletion.Reads as is-deletion
 use Rattle.figures.proofs.policies.policy.Reads as policy
 use Rattle.figures.proofs.policies.count_limit.Reads as count-limit
 use Rattle.figures.proofs.policies.purse_limit.Reads as purse_limit
+use Rattle.figures.proofs.replies.RefusalPartialEq.eq.Reads as Refusal-eq
 use Rattle.figures.proofs.replies.U8FromRefusal.from.Reads as U8-from-Refusal
 use Rattle.figures.proofs.rights.RightHeld.free.Reads as Right-free
 use Rattle.figures.proofs.rights.RightHeld.is_held.Reads as Right-is-held
@@ -81,7 +93,43 @@ Load-free_of_cost_once κs a r r' s s' p q = verdict_once r r' (p ∙ sym q)
 pub Load-bare_once : (κs : Lfts 0) (a : _) (r r' : _) (s s' : _) → Load-bare.Post κs a r s → Load-bare.Post κs a r' s' → r ≡ r'
 Load-bare_once κs a r r' s s' p q = verdict_once r r' (p ∙ sym q)
 
--- of `==`, which the derive writes
+-- of `==` and of order, which the derives write
+pub Tokens-same_once : (κs : Lfts 2) (a : _) (r r' : _) (s s' : _) → Tokens-eq.Post κs a r s → Tokens-eq.Post κs a r' s' → r ≡ r'
+Tokens-same_once κs a r r' s s' p q = p ∙ sym q
+
+pub TrafficKeys-same_once : (κs : Lfts 2) (a : _) (r r' : _) (s s' : _) → TrafficKeys-eq.Post κs a r s → TrafficKeys-eq.Post κs a r' s' → r ≡ r'
+TrafficKeys-same_once κs a r r' s s' p q = p ∙ sym q
+
+pub Timestamp-same_once : (κs : Lfts 2) (a : _) (r r' : _) (s s' : _) → Timestamp-eq.Post κs a r s → Timestamp-eq.Post κs a r' s' → r ≡ r'
+Timestamp-same_once κs a r r' s s' p q = p ∙ sym q
+
+pub KeyDomain-same_once : (κs : Lfts 2) (a : _) (r r' : _) (s s' : _) → KeyDomain-eq.Post κs a r s → KeyDomain-eq.Post κs a r' s' → r ≡ r'
+KeyDomain-same_once κs a r r' s s' p q = p ∙ sym q
+
+pub Interval-same_once : (κs : Lfts 2) (a : _) (r r' : _) (s s' : _) → Interval-eq.Post κs a r s → Interval-eq.Post κs a r' s' → r ≡ r'
+Interval-same_once κs a r r' s s' p q = p ∙ sym q
+
+pub Refusal-same_once : (κs : Lfts 2) (a : _) (r r' : _) (s s' : _) → Refusal-eq.Post κs a r s → Refusal-eq.Post κs a r' s' → r ≡ r'
+Refusal-same_once κs a r r' s s' p q = p ∙ sym q
+
+pub Tokens-partial_cmp_once : (κs : Lfts 2) (a : _) (r r' : _) (s s' : _) → Tokens-partial-cmp.Post κs a r s → Tokens-partial-cmp.Post κs a r' s' → r ≡ r'
+Tokens-partial_cmp_once κs a r r' s s' p q = p ∙ sym q
+
+pub Tokens-cmp_once : (κs : Lfts 2) (a : _) (r r' : _) (s s' : _) → Tokens-cmp.Post κs a r s → Tokens-cmp.Post κs a r' s' → r ≡ r'
+Tokens-cmp_once κs a r r' s s' p q = p ∙ sym q
+
+pub TrafficKeys-partial_cmp_once : (κs : Lfts 2) (a : _) (r r' : _) (s s' : _) → TrafficKeys-partial-cmp.Post κs a r s → TrafficKeys-partial-cmp.Post κs a r' s' → r ≡ r'
+TrafficKeys-partial_cmp_once κs a r r' s s' p q = p ∙ sym q
+
+pub TrafficKeys-cmp_once : (κs : Lfts 2) (a : _) (r r' : _) (s s' : _) → TrafficKeys-cmp.Post κs a r s → TrafficKeys-cmp.Post κs a r' s' → r ≡ r'
+TrafficKeys-cmp_once κs a r r' s s' p q = p ∙ sym q
+
+pub Timestamp-partial_cmp_once : (κs : Lfts 2) (a : _) (r r' : _) (s s' : _) → Timestamp-partial-cmp.Post κs a r s → Timestamp-partial-cmp.Post κs a r' s' → r ≡ r'
+Timestamp-partial_cmp_once κs a r r' s s' p q = p ∙ sym q
+
+pub Timestamp-cmp_once : (κs : Lfts 2) (a : _) (r r' : _) (s s' : _) → Timestamp-cmp.Post κs a r s → Timestamp-cmp.Post κs a r' s' → r ≡ r'
+Timestamp-cmp_once κs a r r' s s' p q = p ∙ sym q
+
 pub KeyId-same_once : (κs : Lfts 2) (a : _) (r r' : _) (s s' : _) → KeyId-eq.Post κs a r s → KeyId-eq.Post κs a r' s' → r ≡ r'
 KeyId-same_once κs a r r' s s' p q = p ∙ sym q
 
