@@ -31,3 +31,24 @@ fn main(rt: HostRuntime) -> io::Result<()> {
     end(&mut out, state)?;
     out.flush()
 }
+
+#[cfg(test)]
+mod tests {
+    use lines::hex::REPLY_LINE;
+
+    // A state is copied where it is passed by value: the one that was passed still has its line, an odd count of digits.
+    #[test]
+    fn answers_a_passed_state_again(rt: HostRuntime) {
+        let damaged = *b"11FF000000000000000000000000\n";
+        let mut first = [0u8; REPLY_LINE];
+        let mut second = [0u8; REPLY_LINE];
+        let state = lines::feed(lines::start(), b"5", &mut first).state;
+        let [one, two] = [state, state];
+        lines::finish(one, &mut first);
+        lines::finish(one, &mut second);
+        assert_eq!(rt; [first, second], [damaged; 2]);
+        first = [0u8; REPLY_LINE];
+        lines::feed(two, b"\n", &mut first);
+        assert_eq!(rt; first, damaged);
+    }
+}
