@@ -1,7 +1,8 @@
 -- A turn of `feed`'s loop, on plain values. Assumes nothing.
 use mathlib.Core.Path.{◌≡◌, refl, sym, ap, ap₂, ◌∙◌}
+use mathlib.Core.Logic.{⊎_elim}
 use mathlib.Core.List.{List, [], ◌∷◌, ◌++◌, append_assoc, append-nil}
-use Prim.Native.Nat.{ℕ, zero, suc, ◌+◌, ◌-◌, ◌≤◌, ◌<◌}
+use Prim.Native.Nat.{ℕ, zero, suc, ◌+◌, ◌-◌, ◌≤◌, ◌<◌, min}
 use native.Mathlib.Nat.{add-zero, sub-zero}
 use native.Mathlib.Numerals.{add-one}
 use native.Mathlib.Omega.{arith}
@@ -9,6 +10,7 @@ use borrow.Author.Tests.{lt-ltb, le-ltb, ne_eqb}
 use lib.Dec.{ltb}
 use lib.ListN.{length, set, take, drop, get_or, length-append, drop_of_length-le}
 use lib.Seq.{paste, drop-cons, take_at, take_all}
+use Rattle.std.proofs.lemmas.Bool.{cases_lt}
 use Rattle.places.proofs.Lists.{if_map}
 use Rattle.rules.specs.Pages.{Pages}
 use Rattle.lines.specs.Types.{Row}
@@ -58,6 +60,16 @@ all_longer s (c ∷ cs) = all_longer (longer s c) cs
 pub held_all_longer : (b : Pages) (r : Row kept) (cs : List ℕ) → held b (all_pushed r cs) ≡ all_longer (held b r) cs
 held_all_longer b r [] = refl
 held_all_longer b r (c ∷ cs) = held_all_longer b (pushed r c) cs ∙ ap (λ (s : Between). all_longer s cs) (held_longer b r c)
+
+-- as many characters as are kept
+pub take-kept : (s : Between) (n : ℕ) → length s.line ≡ kept → n ≡ min s.count kept → take n s.line ≡ take s.count s.line
+take-kept s n k e = ⊎_elim some all (cases_lt s.count kept)
+  where
+    some : s.count < kept → take n s.line ≡ take s.count s.line
+    some h = let m : n ≡ s.count = omega arith in rw m refl
+
+    all : kept ≤ s.count → take n s.line ≡ take s.count s.line
+    all h = take_all n s.line (omega arith) ∙ sym (take_all s.count s.line (omega arith))
 
 -- ## The loop
 
