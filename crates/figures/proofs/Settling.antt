@@ -1,10 +1,10 @@
--- What a sum that was tested, and what a settlement, tells. Assumes nothing.
+-- What a load settles, and what a sum that was tested, and a settlement, tells. Assumes nothing.
 use Prim.Native.Nat.{ℕ}
 use mathlib.Core.Path.{◌≡◌, refl}
 use mathlib.Core.Bool.{Bool, true, false}
 use lib.Dec.{ltb}
 use Rattle.std.specs.Prelude.{if◌then◌else◌}
-use Rattle.figures.specs.Types.{Tokens, Account, Load, Settled, Some, None}
+use Rattle.figures.specs.Types.{Tokens, Account, Credit, Load, Settled, Some, None}
 use Rattle.figures.specs.Loads.{total_of, credit_in, account_by, purse_by, over_by, settled}
 
 -- ## A value unless a test holds
@@ -21,6 +21,20 @@ module _ {A : Type 0} where
 pub total_sum : (l n m : ℕ) → total_of l n ≡ Some m → (ltb l n ≡ false) × (n ≡ m)
 unfolding total_of
 total_sum l n m = some_unless (ltb l n) n m
+
+pub total-over : (l n : ℕ) → total_of l n ≡ None → ltb l n ≡ true
+unfolding total_of
+total-over l n = none_if (ltb l n) n
+
+-- a load whose credit is k
+module _ (l : Load) (held : Account) (purse : Tokens) (k : Credit) (e : credit_in l ≡ k) where
+  pub settled-past : over_by k l held purse ≡ true → None ≡ settled l held purse
+  unfolding settled
+  settled-past h = rw (e, h)
+
+  pub settled_within : over_by k l held purse ≡ false → Some (record { account = account_by k l held; purse = purse_by k l purse }) ≡ settled l held purse
+  unfolding settled
+  settled_within h = rw (e, h)
 
 -- ## What a settlement tells
 

@@ -18,7 +18,7 @@ use Rattle.frames.proofs.Back.{read_written}
 use Rattle.frames.proofs.Forth.{written_read}
 
 -- no frame is longer than a load with its key
-longest : (f : Frame) → whole_length f ≤ length_with load_widths true
+pub longest : (f : Frame) → whole_length f ≤ length_with load_widths true
 longest (LoadFrame l) = grind arith
 longest (MessageFrame m) = omega arith
 longest (ReportFrame n) = omega arith
@@ -38,27 +38,44 @@ pub record Filled (f : Frame) (k : List ℕ) (n : ℕ) (v : List ℕ) : Type 0 w
   pub many : n ≡ length (take n v)
   pub back : Fits f → reading (take n v) ≡ with_key f (key_back f k)
 
--- every frame has room there, so it is written, and reads back from as many bytes as were answered
+-- where there is room the frame is written, and reads back from as many bytes as were answered
+module _ (f : Frame) (k u : List ℕ) (e : length k ≡ key_bytes) (h : whole_length f ≤ length u) (r : Written) (v : List ℕ) (o : outcome r v ≡ writing f k u) where
+  wrote : outcome r v ≡ written f k u
+  wrote = o ∙ has_room f k u h
+
+  answered : r ≡ Ok (whole_length f)
+  answered = ap (λ (x : Writing). x.answer) wrote
+
+  pub counted_in : (n : ℕ) → r ≡ Ok n → n ≡ whole_length f
+  counted_in n c = let a = answered in cc
+
+  pub never_refused : {C : Type 0} (x : Refusal) → r ≡ Err x → C
+  never_refused x c = let a = answered in cc
+
+  filled_in : (n : ℕ) → r ≡ Ok n → Filled f k n v
+  filled_in n c =
+      let q : v ≡ written_as f k ++ drop (whole_length f) u = ap (λ (x : Writing). x.buffer) wrote in
+      let m = counted_in n c in
+      let t : take n v ≡ written_as f k = rw (q, m) (take_at (written_as f k) (drop (whole_length f) u) (whole_length f) (written-length f k e)) in
+      record {
+        fits = rw q (simp (length-append, length-drop) (omega (arith, written-length f k e)));
+        many = rw t (m ∙ sym (written-length f k e));
+        back = λ g. rw t (read_written f k g e);
+      }
+
+  pub front_back : (n : ℕ) → Fits f → r ≡ Ok n → reading (take n v) ≡ with_key f (key_back f k)
+  front_back n g c = (filled_in n c).back g
+
+-- every frame has room in the buffer of zeros
 module _ (f : Frame) (k : List ℕ) (r : Written) (v : List ℕ) (e : length k ≡ key_bytes) (o : outcome r v ≡ writing f k zeroed) where
   room : whole_length f ≤ length zeroed
   room = omega (arith, longest f)
 
-  wrote : outcome r v ≡ written f k zeroed
-  wrote = o ∙ has_room f k zeroed room
-
   pub counted : r ≡ Ok (whole_length f)
-  counted = ap (λ (x : Writing). x.answer) wrote
+  counted = answered f k zeroed e room r v o
 
   pub filled : (n : ℕ) → r ≡ Ok n → Filled f k n v
-  filled n c =
-      let q : v ≡ written_as f k ++ drop (whole_length f) zeroed = ap (λ (x : Writing). x.buffer) wrote in
-      let m : n ≡ whole_length f = let a = counted in cc in
-      let t : take n v ≡ written_as f k = rw (q, m) (take_at (written_as f k) (drop (whole_length f) zeroed) (whole_length f) (written-length f k e)) in
-      record {
-        fits = rw q (simp (length-append, length-drop) (omega (arith, written-length f k e, room)));
-        many = rw t (m ∙ sym (written-length f k e));
-        back = λ g. rw t (read_written f k g e);
-      }
+  filled = filled_in f k zeroed e room r v o
 
 -- what is read is written as it stood, if it fits
 pub copied_whole : (s u : List ℕ) (f : Frame) (k : List ℕ) → length k ≡ key_bytes → Bytes s → reading s ≡ with_key f k → writing f k u ≡ copying s u

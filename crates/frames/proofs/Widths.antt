@@ -5,11 +5,12 @@ use Prim.Native.Nat.{ℕ, zero, suc, ◌+◌, ◌-◌, ◌*◌, ◌/◌, ◌%◌
 use native.Mathlib.Nat.{one-le-pow, add-zero, add-suc, suc-add, mod-one, mod-eq_of_lt, mul-add-div_right, mul-add-mod_self_right, pow-suc, pow-succ'}
 use native.Mathlib.Omega.{arith}
 use lib.Pow.{pow-add}
-use lib.ListN.{length, take, drop, length-append, length-drop}
-use lib.Seq.{length-take-le, take_all, take-add, drop-drop, take-take, take_at, drop_at}
+use lib.ListN.{length, take, drop, get_or, length-append, length-drop}
+use lib.Seq.{length-take-le, take_all, take-add, drop-cons, drop-drop, take-take, take_at, drop_at}
 use lib.Arith.{digits_lt, digits_div, mod-mul}
 use lib.Dec.{lit<}
 use Rattle.frames.specs.Numbers.{number, bytes, field, split, join, total}
+use Rattle.std.proofs.lemmas.Grind.{common_steps}
 use Rattle.std.proofs.lemmas.List.{drop-take}
 use Rattle.std.proofs.lemmas.List.Elements.{All-head, All-tail, All-take, All-drop}
 use Rattle.frames.specs.RoundTrips.{IsByte, Bytes, Fit}
@@ -48,6 +49,30 @@ bytes-number (b ∷ l) h =
     ((let z = high (length l) 0 b (number l) in rw add-zero at z) ∙ bytes-number l (All-tail IsByte b l h))
 
 -- ## A number at a place
+
+-- the n bytes at at + k and on, one by one
+abbrev pub gather : List ℕ → ℕ → ℕ → ℕ → List ℕ
+gather s at k zero = []
+gather s at k (suc n) = get_or s (at + k) 0 ∷ gather s at (suc k) n
+
+part_gather : (s : List ℕ) (at k n : ℕ) → at + k + n ≤ length s → take n (drop (at + k) s) ≡ gather s at k n
+part_gather s at k zero h = refl
+part_gather s at k (suc n) h =
+    let l : at + k < length s = omega arith in
+    let m : at + suc k + n ≤ length s = omega arith in
+    rw (drop-cons s (at + k) 0 l, ← add-suc) (ap (λ (t : List ℕ). get_or s (at + k) 0 ∷ t) (part_gather s at (suc k) n m))
+
+-- a field is the number that the bytes there spell
+pub field-gather : (s : List ℕ) (at n : ℕ) → at + n ≤ length s → field s at n ≡ number (gather s at 0 n)
+field-gather s at n h = let m : at + 0 + n ≤ length s = omega arith in rw (← part_gather s at 0 n m, add-zero)
+
+-- a byte is the number that it spells
+pub field_one : (s : List ℕ) (at : ℕ) → at < length s → get_or s at 0 ≡ field s at 1
+field_one s at h = grind (arith, common_steps)
+
+-- past the end stands 0
+pub field-none : (s : List ℕ) (at : ℕ) → length s ≤ at → 0 ≡ field s at 1
+field-none s at h = grind (arith, common_steps)
 
 -- the bytes of the number in a place are what stands there
 pub bytes-field : (s : List ℕ) (at n : ℕ) → Bytes s → at + n ≤ length s → bytes n (field s at n) ≡ take n (drop at s)

@@ -3,7 +3,7 @@ use mathlib.Core.Path.{◌≡◌, refl, sym, ap, ap₂, ◌∙◌}
 use mathlib.Core.Logic.{⊎_elim}
 use mathlib.Core.List.{List, [], ◌∷◌, ◌++◌, append_assoc, append-nil}
 use Prim.Native.Nat.{ℕ, zero, suc, ◌+◌, ◌-◌, ◌≤◌, ◌<◌, min}
-use native.Mathlib.Nat.{add-zero, sub-zero}
+use native.Mathlib.Nat.{zero-add, add-zero, sub-zero}
 use native.Mathlib.Numerals.{add-one}
 use native.Mathlib.Omega.{arith}
 use borrow.Author.Tests.{lt-ltb, le-ltb, ne_eqb}
@@ -89,6 +89,16 @@ pub record Going (l o₀ : List ℕ) (s₀ : Between) (o : List ℕ) (s : Betwee
   pub is : o ≡ text ++ drop made o₀
   pub within : used ≤ length l
   pub rest : run l s₀ (length o₀) ≡ shift used text (run (drop used l) s (length o₀ - made))
+
+pub going_start : (l o : List ℕ) (s : Between) → Going l o s o s 0 0
+going_start l o s = record {
+  text = [];
+  many = refl;
+  room = omega arith;
+  is = refl;
+  within = omega arith;
+  rest = rw (sub-zero, zero-add) refl;
+}
 
 module _ {l o₀ : List ℕ} {s₀ : Between} {o : List ℕ} {s : Between} {used made : ℕ} (g : Going l o₀ s₀ o s used made) where
   -- what the buffer is after a line more

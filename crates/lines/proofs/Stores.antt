@@ -1,18 +1,23 @@
--- Laws of a row that fills from the front. Assumes nothing.
+-- Laws of runs of stores, and of a row that fills from the front. Assumes nothing.
 use mathlib.Core.Path.{◌≡◌, refl, sym, ap, ◌∙◌}
 use mathlib.Core.Logic.{⊎_elim}
 use mathlib.Core.List.{List, [], ◌∷◌, ◌++◌, append_assoc}
 use Prim.Native.Nat.{ℕ, suc, ◌+◌, ◌-◌, ◌≤◌, ◌<◌, min}
-use native.Mathlib.Nat.{add-zero}
+use native.Mathlib.Nat.{add-zero, add-suc, suc-add}
 use native.Mathlib.Numerals.{add-one}
 use native.Mathlib.Omega.{arith}
 use borrow.Author.Tests.{lt-ltb, le-ltb}
 use lib.ListN.{length, take, drop, set, length-append, length-drop, take-append-drop}
 use borrow.Rule.Slice.PartMut.{put_mid}
-use lib.Seq.{length-take-le, drop-cons, set-append_seam}
+use lib.Seq.{sets, length-take-le, drop-cons, set-append_seam}
 use Rattle.std.proofs.lemmas.Bool.{cases_lt}
 use Rattle.lines.specs.Types.{Row}
 use Rattle.lines.specs.Rows.{fronted, all_pushed}
+
+-- a run of stores after a run of stores
+pub sets-append : (vs ws l : List ℕ) (i : ℕ) → sets (sets l i vs) (i + length vs) ws ≡ sets l i (vs ++ ws)
+sets-append [] ws l i = rw add-zero
+sets-append (v ∷ vs) ws l i = rw (add-suc, ← suc-add) (sets-append vs ws (set l i v) (suc i))
 
 -- one byte more at its place
 pub one_set : (l bs : List ℕ) (b : ℕ) → length bs < length l → set (fronted l bs) (length bs) b ≡ fronted l (bs ++ (b ∷ []))

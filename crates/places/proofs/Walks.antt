@@ -1,15 +1,16 @@
 -- What a search of places finds, and what stands there, for any element and any length. Assumes nothing.
-use Prim.Native.Nat.{ℕ, zero, suc, ◌+◌, ◌<◌}
+use Prim.Native.Nat.{ℕ, zero, suc, ◌+◌, ◌<◌, ◌≤◌}
 use native.Mathlib.Numerals.{add-one}
 use native.Mathlib.Omega.{arith}
-use mathlib.Core.Path.{◌≡◌, refl, ap, ◌∙◌}
+use mathlib.Core.Path.{◌≡◌, refl, ap, ◌∙◌, sym}
 use mathlib.Core.Bool.{Bool, true, false}
 use mathlib.Core.List.{List, [], ◌∷◌, map}
-use lib.ListN.{length, get_or}
-use lib.Seq.{get_or-set_same}
+use lib.ListN.{length, get_or, set, take}
+use lib.Seq.{take-suc, take-suc-set, take_all, get_or-set_same}
 use Rattle.places.specs.Types.{Option, Some, None}
 use Rattle.std.specs.Prelude.{if◌then◌else◌, cond, position, option_map}
 use Rattle.std.specs.List.{position_from}
+use Rattle.std.proofs.lemmas.List.{get_or_past, set_past}
 use Rattle.std.proofs.lemmas.Iterator.Adapters.{position_from-zero}
 use Rattle.places.specs.Words.{next, first, at, put, put_all, or_else}
 
@@ -47,6 +48,22 @@ module _ {A : Type 0} where
   at_in [] i d e h = absurd (omega arith)
   at_in (x ∷ xs) zero d e h = refl
   at_in (x ∷ xs) (suc i) d e h = at_in xs i d e (omega arith)
+
+  pub at_out : (l : List A) (i : ℕ) (d : A) → length l ≤ i → d ≡ at d (Some i) l
+  unfolding at
+  at_out l i d h = sym (get_or_past l i d h)
+
+  pub put_out : (l : List A) (i : ℕ) (x : A) → length l ≤ i → l ≡ put (Some i) x l
+  unfolding put
+  put_out l i x h = sym (set_past l i x h)
+
+-- One element more of a list is copied.
+pub copied_more : {A : Type 0} (from to : List A) (i : ℕ) (d : A) → i < length from → i < length to → take i to ≡ take i from
+    → take (i + 1) (set to i (get_or from i d)) ≡ take (i + 1) from
+copied_more from to i d h k e = rw (add-one, take-suc-set to i (get_or from i d) k, take-suc from i d h, e)
+
+pub copied_all : {A : Type 0} (from to : List A) (i : ℕ) → length from ≤ i → length to ≤ i → take i to ≡ take i from → to ≡ from
+copied_all from to i h k e = sym (take_all i to k) ∙ e ∙ take_all i from h
 
 -- To put x in each place that passes is to map.
 pub put_all_map : {A : Type 0} (p : A → Bool) (x : A) (l : List A) → map (λ y. if p y then x else y) l ≡ put_all p x l
