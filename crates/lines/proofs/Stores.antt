@@ -48,27 +48,23 @@ module _ {n : ℕ} where
       (rw (append_assoc front (b ∷ []) (take j bs ++ drop j rest), append_assoc front (b ∷ []) rest, h) at more)
 
   -- as many bytes as there is room for, written where the others end
-  pub pushed_into : (l bs part : List ℕ) (count from k : ℕ) → length l ≡ n → from ≡ min count n → k ≡ min (length bs) (n - from) → part ≡ take k bs
-      → ◌≡◌ {A = Row n} (record { bytes = put_mid from (from + k - from) l part; count = count + k }) (all_pushed (record { bytes = l; count = count }) bs)
-  pushed_into l bs part count from k m f e p = ⊎_elim some none (cases_lt count n)
-    where
-      some : count < n
-          → ◌≡◌ {A = Row n} (record { bytes = put_mid from (from + k - from) l part; count = count + k }) (all_pushed (record { bytes = l; count = count }) bs)
-      some h =
-          let front = take count l in
-          let rest = drop count l in
-          let u : from ≡ count = omega arith in
-          let i : length front ≡ count = length-take-le count l (omega arith) in
-          let j : length rest ≡ n - count = length-drop count l ∙ ap (λ (x : ℕ). x - count) m in
-          let w : count + k - count ≡ k = omega arith in
-          let v : k ≡ min (length bs) (length rest) = omega arith in
-          let q = pushed_at_once front rest bs k (omega arith) v in
-          rw (p, u, w) (rw (i, take-append-drop count l) at q)
+  module _ (l bs part : List ℕ) (count from wide k : ℕ) (m : length l ≡ n) (f : from ≡ min count n) (e : k ≡ min (length bs) (n - from)) (g : wide ≡ k) (p : part ≡ take k bs) where
+    some : count < n → ◌≡◌ {A = Row n} (record { bytes = put_mid from wide l part; count = count + k }) (all_pushed (record { bytes = l; count = count }) bs)
+    some h =
+        let front = take count l in
+        let rest = drop count l in
+        let u : from ≡ count = omega arith in
+        let i : length front ≡ count = length-take-le count l (omega arith) in
+        let j : length rest ≡ n - count = length-drop count l ∙ ap (λ (x : ℕ). x - count) m in
+        let v : k ≡ min (length bs) (length rest) = omega arith in
+        let q = pushed_at_once front rest bs k (omega arith) v in
+        rw (g, p, u) (rw (i, take-append-drop count l) at q)
 
-      none : n ≤ count
-          → ◌≡◌ {A = Row n} (record { bytes = put_mid from (from + k - from) l part; count = count + k }) (all_pushed (record { bytes = l; count = count }) bs)
-      none h =
-          let z : k ≡ 0 = omega arith in
-          let w : from + 0 - from ≡ 0 = omega arith in
-          rw (p, z, w, add-zero count, full (record { bytes = l; count = count }) bs h)
-          (ap (λ (x : List ℕ). record { bytes = x; count = count }) (take-append-drop from l))
+    none : n ≤ count → ◌≡◌ {A = Row n} (record { bytes = put_mid from wide l part; count = count + k }) (all_pushed (record { bytes = l; count = count }) bs)
+    none h =
+        let z : k ≡ 0 = omega arith in
+        rw (g, p, z, add-zero count, full (record { bytes = l; count = count }) bs h)
+        (ap (λ (x : List ℕ). record { bytes = x; count = count }) (take-append-drop from l))
+
+    pub pushed_into : ◌≡◌ {A = Row n} (record { bytes = put_mid from wide l part; count = count + k }) (all_pushed (record { bytes = l; count = count }) bs)
+    pushed_into = ⊎_elim some none (cases_lt count n)
