@@ -20,8 +20,8 @@ pub struct KeyDomain(pub u8, pub u8, pub u8);
 #[derive(Clone, Copy, PartialEq, Eq)]
 pub struct KeyId {
     pub domain: KeyDomain,
-    pub group: u16,
     pub number: u16,
+    pub group: u16,
 }
 
 // From TS low, which is outside, to TS high, which is inside.
