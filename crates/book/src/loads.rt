@@ -68,8 +68,8 @@ impl Book {
         let Some(right) = room_for(&self.rights, named) else {
             return Err(Reply::Refused(Refusal::Full));
         };
-        let before = held_in(&self.rights, named);
-        let Some(settled) = load.settled(before.account, self.purse) else {
+        let account = self.account_in(named);
+        let Some(settled) = load.settled(account, self.purse) else {
             return Err(self.over(held, named));
         };
         Ok(Storing {

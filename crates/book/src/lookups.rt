@@ -1,16 +1,18 @@
 // Looking up keys and rights: 01, Rights.
 ghost use Rattle.std.specs.Prelude.{◌≡◌, not};
 ghost use Rattle.places.specs.Words.{first, at, or_else};
+ghost use Rattle.figures.specs.Rights.{free_right};
 ghost use Rattle.rules.specs.Pages.{as_held};
 ghost use Rattle.book.specs.Types.{Some};
 ghost use Rattle.book.specs.Pages.{pages, shown};
 
 use crate::Book;
+use figures::accounts::Account;
 use figures::held::Held;
 use figures::keys::Key;
 use figures::names::Tokens;
 use figures::replies::Shown;
-use figures::rights::Right;
+use figures::rights::{FREE_RIGHT, Right};
 
 // The place of a key, and that of a right.
 #[derive(Clone, Copy)]
@@ -64,6 +66,17 @@ pub(crate) fn shown_of(place: usize, right: Right, key: Key, purse: Tokens) -> S
 }
 
 impl Book {
+    // The account of the right in a place, alone, so that no other field is read; a free right's where there is no such place.
+    #[tactic(auto, unfolding(places::specs::Words::at, figures::specs::Rights::free_right, figures::specs::Names::no_id))]
+    pub(crate) fn account_in(&self, place: Option<usize>) -> Account
+        ensures { result ≡ (at free_right place self.now.rights).account }
+    {
+        match place.and_then(|i| self.rights.get(i)) {
+            Some(right) => right.account,
+            None => FREE_RIGHT.account,
+        }
+    }
+
     // The right in a place, with the replay counter of the key in a place, as held.
     #[tactic(auto, unfolding(rules::specs::Pages::as_held, rules::specs::Pages::key_in, rules::specs::Pages::right_in, rules::specs::Pages::purse_of, figures::specs::Keys::free_key, figures::specs::Rights::free_right, figures::specs::Names::no_id))]
     pub(crate) fn as_held(&self, key: Option<usize>, place: usize) -> Shown

@@ -11,7 +11,7 @@ use Rattle.book.specs.Types.{Places}
 use Rattle.book.specs.Pages.{pages, Held}
 use Rattle.book.proofs.Storing.{stored_is}
 use Rattle.book.proofs.Book.storing.Goals as goal
-use Rattle.book.proofs.Book.storing.Goals.{In-Passed-known, In-Some-room_for, After-place_of-held, After-place_of-named, After-room_for, After-room_for-2, After-held_in-before}
+use Rattle.book.proofs.Book.storing.Goals.{In-Passed-known, In-Some-room_for, After-place_of-held, After-place_of-named, After-room_for, After-room_for-2, After-account_in-account}
 
 -- where the key and the right are held, by the rules
 key_is : (c : After-place_of-held) → c.place_of-held.result ≡ key_at (pages c.args.self.now) c.args.load.name.id
@@ -31,9 +31,9 @@ right_goes : (c : After-room_for-2) → c.room_for-2.result ≡ right_room (page
 unfolding right_room right_at free_right_at
 right_goes c = rw c.room_for-2.ensures (rw c.place_of-named.ensures)
 
-account_is : (c : After-held_in-before) → c.held_in-before.result.account ≡ account_before (pages c.args.self.now) c.args.load.name
+account_is : (c : After-account_in-account) → c.account_in-account.result ≡ account_before (pages c.args.self.now) c.args.load.name
 unfolding account_before right_at right_in free_right no_id
-account_is c = rw (c.held_in-before.ensures, c.place_of-named.ensures)
+account_is c = rw (c.account_in-account.ensures, c.place_of-named.ensures)
 
 -- the first four checks pass
 four_pass : (c : In-Passed-known) (u : List ℕ) (d : After)
@@ -55,7 +55,7 @@ unfolding store load_refusals over_limit over_reply purse_of unless
 returns-in_default-settled-clause-ends c =
     let x = goal.at.returns-in_default-settled-clause-ends c in
     let past = past_tells _ _ _ (sym c.in_default-settled.ensures) in
-    λ u bytes. simp (c.over.ensures, six_pass x.In-Some-room_for, ← account_is x.After-held_in-before, past, key_is x.After-place_of-held, right_is x.After-place_of-named)
+    λ u bytes. simp (c.over.ensures, six_pass x.In-Some-room_for, ← account_is x.After-account_in-account, past, key_is x.After-place_of-held, right_is x.After-place_of-named)
 
 -- the places are places of the book
 pub returns-clause-places : goal.returns-clause-places
@@ -75,7 +75,7 @@ returns-clause-ends c =
     let within = within_tells _ _ _ _ (sym c.in-Some-settled.ensures) in
     let key = sym (key_goes x.After-room_for) ∙ c.in-Some.is in
     let right = sym (right_goes x.After-room_for-2) ∙ c.in-Some-room_for.is in
-    let account = account_is x.After-held_in-before in
+    let account = account_is x.After-account_in-account in
     let places : Places = record { key = c.in-Some.key; right = c.in-Some-room_for.right } in
     let held : Held b places = record { key = key_room_inside _ _ _ key; right = right_room_inside _ _ _ right } in
     λ u bytes. rw (← within.1, account, key_is x.After-place_of-held)
