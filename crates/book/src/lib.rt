@@ -8,6 +8,7 @@ mod messages;
 pub mod replies;
 
 ghost use Rattle.std.specs.Prelude.{◌≡◌};
+ghost use Rattle.frames.specs.Reading.{key_beside};
 ghost use Rattle.rules.specs.Pages.{empty_book};
 ghost use Rattle.rules.specs.Rules.{act, call};
 ghost use Rattle.book.specs.Types.{Refused};
@@ -19,7 +20,7 @@ use figures::names::Tokens;
 use figures::replies::{Refusal, Reply};
 use figures::rights::{FREE_RIGHT, Right};
 use frames::Frame;
-use frames::reader::read;
+use frames::reader::{key_beside, read, seen};
 
 #[derive(Clone, Copy)]
 pub struct Book {
@@ -88,18 +89,13 @@ impl Book {
         }
     }
 
-    // What a frame of each kind does to a book where it lies.
+    // What a frame of each kind does to a book where it lies. Only a load reads the key bytes beside it.
     #[tactic(auto, unfolding(rules::specs::Rules::act))]
-    fn serve_frame(
-        &mut self,
-        frame: Frame,
-        bytes: [u8; KEY_BYTES],
-        key: &mut [u8; KEY_BYTES],
-    ) -> Reply
-        ensures { ends self.new result key.new ≡ act (pages self.old) key.old frame bytes }
+    fn serve_frame(&mut self, frame: Frame, bytes: &[u8], key: &mut [u8; KEY_BYTES]) -> Reply
+        ensures { ends self.new result key.new ≡ act (pages self.old) key.old frame (key_beside bytes.now) }
     {
         match frame {
-            Frame::Load(load) => self.serve_load(load, bytes),
+            Frame::Load(load) => self.serve_load(load, key_beside(bytes)),
             Frame::Message(message) => self.serve_message(message, key),
             Frame::Report(name) => self.reported(name),
             Frame::Delete(name) => self.serve_delete(name),
@@ -114,9 +110,8 @@ impl Book {
         let Some(lent) = key.as_mut_array::<KEY_BYTES>() else {
             return Reply::Refused(Refusal::BufferLength);
         };
-        let read = read(frame);
-        match read.frame {
-            Ok(frame) => self.serve_frame(frame, read.key, lent),
+        match seen(frame) {
+            Ok(read) => self.serve_frame(read, frame, lent),
             Err(why) => Reply::Refused(why),
         }
     }

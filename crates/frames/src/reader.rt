@@ -121,7 +121,7 @@ fn is_right(bytes: &[u8], kind: u8) -> bool
 
 // The first row of the table whose tests pass; 11 where none does.
 #[tactic(auto, unfolding(crate::specs::Reading::seen))]
-fn seen(bytes: &[u8]) -> Result<Frame, Refusal>
+pub fn seen(bytes: &[u8]) -> Result<Frame, Refusal>
     ensures { result ≡ seen bytes.now }
 {
     if is_load(bytes) {
@@ -147,7 +147,7 @@ fn key_present(bytes: &[u8]) -> bool
 
 // Zeros where no key is present, or the frame is refused.
 #[tactic(auto, using(crate::proofs::Tests::keyed_long), unfolding(crate::specs::Reading::key_beside))]
-fn key_beside(bytes: &[u8]) -> [u8; KEY_BYTES]
+pub fn key_beside(bytes: &[u8]) -> [u8; KEY_BYTES]
     ensures { result ≡ key_beside bytes.now }
 {
     if key_present(bytes) {
