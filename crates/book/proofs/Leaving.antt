@@ -2,10 +2,12 @@
 use Prim.Native.Nat.{ℕ, zero, suc, ◌<◌}
 use native.Mathlib.Omega.{arith}
 use mathlib.Core.Path.{◌≡◌, refl, ap}
+use mathlib.Core.Bool.{Bool, true, false}
 use mathlib.Core.List.{List, [], ◌∷◌}
-use Rattle.std.specs.Prelude.{Bool, if◌then◌else◌}
+use Rattle.std.specs.Prelude.{if◌then◌else◌}
 use lib.ListN.{length, get_or, set}
-use Rattle.places.specs.Words.{put_all}
+use Rattle.places.specs.Words.{first, next, put_all}
+use Rattle.book.specs.Types.{Some, None}
 
 module _ {A : Type 0} (p : A → Bool) (x : A) where
   -- as far as a place
@@ -30,3 +32,13 @@ module _ {A : Type 0} (p : A → Bool) (x : A) where
   unfolding put_all upto
   upto_all [] = refl
   upto_all (y ∷ ys) = ap (λ (l : List A). (if p y then x else y) ∷ l) (upto_all ys)
+
+  -- where x fails the test, none passes it any more
+  pub none_left : p x ≡ false → (l : List A) → first p (put_all p x l) ≡ None
+  unfolding first put_all
+  none_left h [] = refl
+  none_left h (y ∷ ys) = go (p y) refl (none_left h ys)
+    where
+      go : (t : Bool) → p y ≡ t → first p (put_all p x ys) ≡ None → (if p (if t then x else y) then Some 0 else next (first p (put_all p x ys))) ≡ None
+      go true e k = rw (h, k)
+      go false e k = rw (e, k)

@@ -22,7 +22,7 @@ impl Book {
         ensures book { self.new ≡ record { keys = self.old.keys; rights = put_all (λ x. is_of id x) free_right self.old.rights; purse = self.old.purse } }
     {
         for right in self.rights.iter_mut() {
-            *right = right.unless_of(id);
+            right.free_if_of(id);
         }
     }
 
@@ -96,11 +96,11 @@ impl Book {
             return Reply::Refused(Refusal::Fields);
         };
         let id = load.name.id;
-        let Some(_) = place_of(&self.keys, id) else {
+        let Some(place) = place_of(&self.keys, id) else {
             return Reply::Refused(Refusal::NotHeld);
         };
         self.drop_rights(id);
-        self.leave(id);
+        self.keys[place] = FREE_KEY;
         Reply::Deleted(self.purse)
     }
 

@@ -84,11 +84,13 @@ impl Right {
         }
     }
 
-    // The right, or a free place where it is of the ID.
+    // A free place where the right is of the ID. In place, so that the other rights are not written.
     #[tactic(auto, unfolding(crate::specs::Rights::unless_of, crate::specs::Rights::free_right, crate::specs::Names::no_id))]
-    pub fn unless_of(self, id: KeyId) -> Right
-        ensures { result ≡ unless_of id self }
+    pub fn free_if_of(&mut self, id: KeyId)
+        ensures { self.new ≡ unless_of id self.old }
     {
-        if self.is_of(id) { FREE_RIGHT } else { self }
+        if self.is_of(id) {
+            *self = FREE_RIGHT;
+        }
     }
 }

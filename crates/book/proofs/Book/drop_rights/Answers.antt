@@ -23,7 +23,7 @@ loop-right-preserved c =
     let all = c.args.self.now.rights in
     let d : Right = record { held = false; name = record { id = record { domain = (0, 0, 0); group = 0; number = 0 }; interval = record { low = record { 0 = 0 }; high = record { 0 = 0 } }; spe = 0 }; account = Counted (record { 0 = 0 }) } in
     let n : i < length all = search rules in
-    rw (c.unless_of.ensures, c.loop-right.invariant, upto_here p free_right i all d) (sym (upto_next p free_right i _ all d (omega arith) n))
+    rw (c.free_if_of.ensures, c.loop-right.invariant, upto_here p free_right i all d) (sym (upto_next p free_right i _ all d (omega arith) n))
 
 pub returns : goal.returns
 returns c =
