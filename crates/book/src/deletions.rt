@@ -87,7 +87,7 @@ impl Book {
     }
 
     // A load with SPE 0A, on a book where it lies. Out of line: it is rare, and the others want less stack.
-    #[tactic(auto, unfolding(rules::specs::Deletions::erase, rules::specs::Deletions::erase_refusals, rules::specs::Deletions::erased, rules::specs::Deletions::left, rules::specs::Pages::key_at, rules::specs::Pages::user_purse, rules::specs::Calls::unless))]
+    #[tactic(auto, unfolding(rules::specs::Deletions::erase, rules::specs::Deletions::erase_refusals, rules::specs::Pages::key_at, rules::specs::Calls::unless))]
     #[inline(never)]
     pub(crate) fn serve_erase(&mut self, load: Load) -> Reply
         ensures { (u : List ℕ) → ends self.new result u ≡ erase (pages self.old) u load }

@@ -1,5 +1,5 @@
 // Short term messages: 01, What a short term message does.
-ghost use Rattle.std.specs.Prelude.{◌≡◌, ◌≤◌, List, ℕ, length, not, IfOk};
+ghost use Rattle.std.specs.Prelude.{◌≡◌, ◌<◌, List, ℕ, length, not, IfOk};
 ghost use Rattle.places.specs.Words.{failed, first};
 ghost use Rattle.figures.specs.Rights.{fits};
 ghost use Rattle.rules.specs.Messages.{grant, message};
@@ -39,14 +39,18 @@ fn paying(rights: &[Right], message: Message, replay: Timestamp, purse: Tokens) 
 }
 
 impl Book {
-    // Who is charged, where the walk goes on from a fitting right.
-    #[tactic(auto, unfolding(crate::specs::Choices::payer_from))]
+    // Who is charged, where the lowest right that fits is in place `from`: it is asked first, and the walk goes on behind it.
     fn payer(&self, from: usize, message: Message, replay: Timestamp) -> Option<usize>
-        requires { from ≤ length self.now.rights }
+        requires inside { from < length self.now.rights }
+        requires lowest { first (λ r. fits message replay r) self.now.rights ≡ Some from }
         ensures { result ≡ payer_from from message replay self.now.purse self.now.rights }
     {
-        let later = paying(&self.rights[from..], message, replay, self.purse)?;
-        let place = from + later;
+        if self.rights[from].account.can_pay(self.purse) {
+            return Some(from);
+        }
+        let next = from + 1;
+        let later = paying(&self.rights[next..], message, replay, self.purse)?;
+        let place = next + later;
         Some(place)
     }
 

@@ -39,7 +39,7 @@ returns-in_default-fitting-clause-ends c =
     λ u. simp (← c.in-Passed.ensures, ← c.in-Some.ensures, ← f, c.in_default-fitting.is)
 
 pub payer-requires : goal.payer-requires
-payer-requires c = let l = first_in _ _ _ (sym c.in-Some-fitting.ensures) in omega arith
+payer-requires c = let e = sym c.in-Some-fitting.ensures in record { inside = first_in _ _ _ e; lowest = e }
 
 pub returns-in_default-payer-clause-ends : goal.returns-in_default-payer-clause-ends
 unfolding key_at message message_refusals payer unless
