@@ -86,8 +86,8 @@ impl Book {
         let next = held.granted(ts);
         let charged = right.charged();
         let purse = right.account.spend(self.purse);
-        self.keys[places.key] = next;
-        self.rights[places.right] = charged;
+        self.keys[places.key].replay = next.replay;
+        self.rights[places.right].account = charged.account;
         self.purse = purse;
         let bytes = held.bytes;
         *key = bytes;

@@ -1,11 +1,13 @@
 -- What is stored in the two places is what the rules put there.
 use Rattle.places.specs.Words.{put}
+use Rattle.figures.specs.Keys.{granted_key}
+use Rattle.figures.specs.Rights.{charged_right}
 use Rattle.rules.proofs.InPlace.{grant_in}
 use Rattle.book.specs.Pages.{pages}
 use Rattle.book.proofs.Book.pay.Goals as goal
 
 pub returns : goal.returns
-unfolding put
+unfolding put granted_key charged_right
 returns c =
     let b = c.args.self.now in
     let p = c.args.places in
