@@ -33,7 +33,7 @@ impl Held for Key {
 
     #[tactic(auto, unfolding(crate::specs::Names::same_id))]
     fn is_named(self, id: KeyId) -> bool {
-        self.held && self.id == id
+        self.id == id && self.held
     }
 
     fn is_held(self) -> bool {

@@ -41,7 +41,7 @@ impl Held for Right {
 
     #[tactic(auto, unfolding(crate::specs::Names::same_id, crate::specs::Names::same_name))]
     fn is_named(self, name: RightName) -> bool {
-        self.held && self.name == name
+        self.name == name && self.held
     }
 
     fn is_held(self) -> bool {
@@ -60,7 +60,7 @@ impl Right {
     pub fn is_of(self, id: KeyId) -> bool
         ensures { result ≡ is_of id self }
     {
-        self.held && self.name.id == id
+        self.name.id == id && self.held
     }
 
     // Whether the right fits a message, by the replay counter of its key.
