@@ -75,6 +75,7 @@ impl Book {
     /// assert_eq!(book.call(&message, &mut key[..15]), Reply::Refused(Refusal::BufferLength));
     /// assert_eq!(book.call(b"hello", &mut key).to_string(), "not a frame");
     /// ```
+    #[inline]
     #[must_use = "a call may be refused"]
     pub fn call(&mut self, frame: &[u8], key: &mut [u8]) -> Reply {
         Reply::of_bytes(self.0.call(frame, key))

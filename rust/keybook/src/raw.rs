@@ -46,6 +46,7 @@ impl Memory {
     }
 
     /// One call of the book that lies here.
+    #[inline]
     pub(crate) fn call(&mut self, frame: &[u8], key: &mut [u8]) -> [u8; REPLY_BYTES] {
         let mut reply = [0; REPLY_BYTES];
         // SAFETY: the library requires that a book lies at the first pointer. One does: the field is private, so `self` comes from `empty` or is

@@ -59,38 +59,7 @@ impl Refusal {
             Refusal::NotHeld => 0x1B,
         }
     }
-
-    /// The refusal of a number that shows nothing beside it.
-    pub(crate) fn of_code(code: u8) -> Option<Refusal> {
-        *BY_CODE.get(usize::from(code))?
-    }
 }
-
-/// The refusals that show nothing beside their number.
-const PLAIN: [Refusal; 11] = [
-    Refusal::BufferLength,
-    Refusal::Unreadable,
-    Refusal::Policy,
-    Refusal::Fields,
-    Refusal::EmptyInterval,
-    Refusal::UnknownId,
-    Refusal::Full,
-    Refusal::Integrity,
-    Refusal::NoFit,
-    Refusal::NoFunds,
-    Refusal::NotHeld,
-];
-
-/// Those refusals at their numbers.
-static BY_CODE: [Option<Refusal>; 32] = {
-    let mut refusals = [None; 32];
-    let mut i = 0;
-    while i < PLAIN.len() {
-        refusals[PLAIN[i].code() as usize] = Some(PLAIN[i]);
-        i += 1;
-    }
-    refusals
-};
 
 /// The words that `bookrun --explain` prints.
 impl fmt::Display for Refusal {

@@ -132,27 +132,38 @@ impl Reply {
     }
 
     /// The reply of these bytes. The library writes no others: what it writes is `reply_bytes` of a reply, which has these cases and no more.
+    /// The code says which numbers are read.
+    #[inline]
     pub(crate) fn of_bytes(bytes: [u8; REPLY_BYTES]) -> Reply {
-        let [code, place, fields @ ..] = bytes;
-        let number = |at: usize| u32::from_be_bytes([0, 1, 2, 3].map(|i| fields[at + i]));
-        let purse = number(4);
-        let shown = Shown {
+        let [code, place, v0, v1, v2, v3, p0, p1, p2, p3, r0, r1, r2, r3] = bytes;
+        let purse = || u32::from_be_bytes([p0, p1, p2, p3]);
+        let shown = || Shown {
             place,
-            value: number(0),
-            purse,
-            replay_counter: number(8),
+            value: u32::from_be_bytes([v0, v1, v2, v3]),
+            purse: purse(),
+            replay_counter: u32::from_be_bytes([r0, r1, r2, r3]),
         };
-        match (code, place) {
-            (0x00, NO_PLACE) => Reply::Deleted { purse },
-            (0x00, _) => Reply::Loaded(shown),
-            (0x01, _) => Reply::Granted(shown),
-            (0x02, _) => Reply::Reported(shown),
-            (0x17, NO_PLACE) => Reply::Refused(Refusal::OverNew { purse }),
-            (0x17, _) => Reply::Refused(Refusal::OverHeld(shown)),
-            _ => Refusal::of_code(code)
-                .map(Reply::Refused)
-                .expect("the library writes no other code"),
-        }
+        let refused = match code {
+            0x00 if place == NO_PLACE => return Reply::Deleted { purse: purse() },
+            0x00 => return Reply::Loaded(shown()),
+            0x01 => return Reply::Granted(shown()),
+            0x02 => return Reply::Reported(shown()),
+            0x10 => Refusal::BufferLength,
+            0x11 => Refusal::Unreadable,
+            0x12 => Refusal::Policy,
+            0x13 => Refusal::Fields,
+            0x14 => Refusal::EmptyInterval,
+            0x15 => Refusal::UnknownId,
+            0x16 => Refusal::Full,
+            0x17 if place == NO_PLACE => Refusal::OverNew { purse: purse() },
+            0x17 => Refusal::OverHeld(shown()),
+            0x18 => Refusal::Integrity,
+            0x19 => Refusal::NoFit,
+            0x1A => Refusal::NoFunds,
+            0x1B => Refusal::NotHeld,
+            _ => panic!("the library writes no other code"),
+        };
+        Reply::Refused(refused)
     }
 }
 
