@@ -1,7 +1,7 @@
 -- What each test of the reader says of a string that passes it. Assumes nothing.
 use Prim.Native.Nat.{ℕ, ◌+◌, ◌≤◌}
 use mathlib.Core.Path.{◌≡◌, refl, ap, ◌∙◌}
-use mathlib.Core.Bool.{true}
+use mathlib.Core.Bool.{true, false}
 use mathlib.Core.List.{List}
 use lib.ListN.{length, drop, length-drop}
 use lib.Seq.{length-take-le}
@@ -9,9 +9,11 @@ use borrow.Author.Tests.{eqb-true}
 use native.Mathlib.Omega.{arith}
 use Rattle.places.proofs.Tests.{if_elim, and_left, and_right}
 use Rattle.figures.specs.Limits.{key_bytes}
+use lib.Dec.{eqb}
+use Rattle.frames.specs.Types.{Err, Unreadable}
 use Rattle.frames.specs.Numbers.{field, total}
-use Rattle.frames.specs.Layouts.{load_kind, message_kind, message_widths, right_widths, load_widths, length_with, bit}
-use Rattle.frames.specs.Reading.{spare_clear, is_mark, flags_in, mark_in, is_load, is_message, is_right, key_present, key_beside}
+use Rattle.frames.specs.Layouts.{load_kind, message_kind, report_kind, delete_kind, message_widths, right_widths, load_widths, length_with, bit}
+use Rattle.frames.specs.Reading.{spare_clear, is_mark, flags_in, mark_in, is_load, is_message, is_right, seen, key_present, key_beside}
 
 pub record LoadPasses (s : List ℕ) : Type 0 where
   pub kind : field s 0 1 ≡ load_kind
@@ -38,6 +40,27 @@ pub record RightPasses (k : ℕ) (s : List ℕ) : Type 0 where
 pub right_passes : (k : ℕ) (s : List ℕ) → is_right k s ≡ true → RightPasses k s
 unfolding is_right
 right_passes k s e = record { kind = search (eqb-true, and_left); long = search (eqb-true, and_right) }
+
+-- ## A string of another kind
+
+module _ (s : List ℕ) where
+  pub no_load : eqb (field s 0 1) load_kind ≡ false → is_load s ≡ false
+  unfolding is_load
+  no_load e = rw e
+
+  pub no_message : eqb (field s 0 1) message_kind ≡ false → is_message s ≡ false
+  unfolding is_message
+  no_message e = rw e
+
+  pub no_right : (k : ℕ) → eqb (field s 0 1) k ≡ false → is_right k s ≡ false
+  unfolding is_right
+  no_right k e = rw e
+
+  pub unreadable : is_load s ≡ false → is_message s ≡ false → is_right report_kind s ≡ false → is_right delete_kind s ≡ false → Err Unreadable ≡ seen s
+  unfolding seen
+  unreadable l m r d = rw (l, m, r, d)
+
+-- ## How long it is
 
 -- a load has its fields, and its key where flag bit 1 is set
 pub load_long : (s : List ℕ) → is_load s ≡ true → total load_widths ≤ length s

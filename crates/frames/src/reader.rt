@@ -124,19 +124,13 @@ fn is_right(bytes: &[u8], kind: u8) -> bool
 pub fn seen(bytes: &[u8]) -> Result<Frame, Refusal>
     ensures { result ≡ seen bytes.now }
 {
-    if is_load(bytes) {
-        return Ok(Frame::Load(load_in(bytes)));
+    match byte_at(bytes, KIND_AT) {
+        LOAD if is_load(bytes) => Ok(Frame::Load(load_in(bytes))),
+        MESSAGE if is_message(bytes) => Ok(Frame::Message(message_in(bytes))),
+        REPORT if is_right(bytes, REPORT) => Ok(Frame::Report(name_in(bytes))),
+        DELETE if is_right(bytes, DELETE) => Ok(Frame::Delete(name_in(bytes))),
+        _ => Err(Refusal::Unreadable),
     }
-    if is_message(bytes) {
-        return Ok(Frame::Message(message_in(bytes)));
-    }
-    if is_right(bytes, REPORT) {
-        return Ok(Frame::Report(name_in(bytes)));
-    }
-    if is_right(bytes, DELETE) {
-        return Ok(Frame::Delete(name_in(bytes)));
-    }
-    Err(Refusal::Unreadable)
 }
 
 fn key_present(bytes: &[u8]) -> bool
