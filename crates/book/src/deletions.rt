@@ -86,9 +86,8 @@ impl Book {
         Called { book, reply }
     }
 
-    // A load with SPE 0A, on a book where it lies. Out of line: it is rare, and the others want less stack.
+    // A load with SPE 0A, on a book where it lies.
     #[tactic(auto, unfolding(rules::specs::Deletions::erase, rules::specs::Deletions::erase_refusals, rules::specs::Pages::key_at, rules::specs::Calls::unless))]
-    #[inline(never)]
     pub(crate) fn serve_erase(&mut self, load: Load) -> Reply
         ensures { (u : List ℕ) → ends self.new result u ≡ erase (pages self.old) u load }
     {

@@ -20,7 +20,7 @@ use figures::names::Tokens;
 use figures::replies::{Refusal, Reply};
 use figures::rights::{FREE_RIGHT, Right};
 use frames::Frame;
-use frames::reader::{key_beside, read, seen};
+use frames::reader::{read, seen};
 
 #[derive(Clone, Copy)]
 pub struct Book {
@@ -89,13 +89,13 @@ impl Book {
         }
     }
 
-    // What a frame of each kind does to a book where it lies. Only a load reads the key bytes beside it.
+    // What a frame of each kind does to a book where it lies.
     #[tactic(auto, unfolding(rules::specs::Rules::act))]
     fn serve_frame(&mut self, frame: Frame, bytes: &[u8], key: &mut [u8; KEY_BYTES]) -> Reply
         ensures { ends self.new result key.new ≡ act (pages self.old) key.old frame (key_beside bytes.now) }
     {
         match frame {
-            Frame::Load(load) => self.serve_load(load, key_beside(bytes)),
+            Frame::Load(load) => self.serve_load(load, bytes),
             Frame::Message(message) => self.serve_message(message, key),
             Frame::Report(name) => self.reported(name),
             Frame::Delete(name) => self.serve_delete(name),

@@ -1,6 +1,7 @@
 // Loads: 01, What a load does.
 ghost use Rattle.std.specs.Prelude.{◌≡◌, not, ◌&&◌, List, ℕ, IfOk};
 ghost use Rattle.places.specs.Words.{missing, failed};
+ghost use Rattle.frames.specs.Reading.{key_beside};
 ghost use Rattle.rules.specs.Loads.{store};
 ghost use Rattle.rules.specs.Rules.{load};
 ghost use Rattle.book.specs.Pages.{pages, ends, after, Held};
@@ -12,6 +13,7 @@ use figures::limits::KEY_BYTES;
 use figures::loads::{Load, Settled};
 use figures::policies::{is_deletion, policy};
 use figures::replies::{Refusal, Reply};
+use frames::reader::key_beside;
 use places::Verdict;
 
 // Fails where the ID is not held and no key is carried.
@@ -122,16 +124,16 @@ impl Book {
         }
     }
 
-    // On a book where it lies.
+    // On a book where it lies. The key bytes beside the frame are read only where they are stored.
     #[tactic(auto, unfolding(rules::specs::Rules::load))]
-    pub(crate) fn serve_load(&mut self, frame: Load, bytes: [u8; KEY_BYTES]) -> Reply
-        ensures { (u : List ℕ) → ends self.new result u ≡ load (pages self.old) u frame bytes }
+    pub(crate) fn serve_load(&mut self, frame: Load, bytes: &[u8]) -> Reply
+        ensures { (u : List ℕ) → ends self.new result u ≡ load (pages self.old) u frame (key_beside bytes.now) }
     {
         if is_deletion(frame.name.spe) {
             return self.serve_erase(frame);
         }
         match self.storing(frame) {
-            Ok(storing) => self.keep(frame, bytes, storing),
+            Ok(storing) => self.keep(frame, key_beside(bytes), storing),
             Err(reply) => reply,
         }
     }
