@@ -41,7 +41,7 @@ impl Held for Right {
 
     #[tactic(auto, unfolding(crate::specs::Names::same_id, crate::specs::Names::same_name))]
     fn is_named(self, name: RightName) -> bool {
-        self.name == name && self.held
+        self.is_of(name.id) && self.name == name
     }
 
     fn is_held(self) -> bool {
