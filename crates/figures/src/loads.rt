@@ -52,8 +52,9 @@ fn summed(limit: u32, add: bool, before: u32, amount: u32) -> Option<u32>
 }
 
 impl Load {
-    // The account of the right and the purse after this load, where no limit is passed.
+    // The account of the right and the purse after this load, where no limit is passed. Inline, so that no load is laid out in memory for it.
     #[tactic(auto, unfolding(crate::specs::Loads::settled, crate::specs::Loads::total_of))]
+    #[inline(always)]
     pub fn settled(self, held: Account, purse: Tokens) -> Option<Settled>
         ensures { result ≡ settled self held purse }
     {
