@@ -1,5 +1,5 @@
 -- The right in the place is asked first; a place that was found behind it is a place of the list.
-use Rattle.std.proofs.Common.{◌≡◌, ◌+◌, drop, option_map, refl, sym, ap, ◌∙◌, arith}
+use Rattle.std.proofs.Common.{◌≡◌, ◌+◌, drop, option_map, refl, sym, ap, ◌∙◌, arith, rules}
 use Rattle.std.specs.Prelude.{if◌then◌else◌}
 use native.Mathlib.Numerals.{add-one}
 use lib.ListN.{length-drop}
@@ -44,4 +44,6 @@ overflow_add-place c =
 pub returns : goal.returns
 returns c =
     let x = goal.at.returns c in
-    rw (asked x.After-can_pay, c.if-can_pay.false, ← behind x.After-paying, c.in_ok-later.was) refl
+    let e : payer_from c.args.from c.args.message c.args.replay c.args.self.now.purse c.args.self.now.rights ≡ Some (c.args.from + 1 + c.in_ok-later.later) =
+    rw (asked x.After-can_pay, c.if-can_pay.false, ← behind x.After-paying, c.in_ok-later.was) refl in
+    search rules
