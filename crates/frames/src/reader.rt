@@ -119,7 +119,7 @@ fn is_right(bytes: &[u8], kind: u8) -> bool
     is_kind(bytes, kind) && bytes.len() == RIGHT_BYTES
 }
 
-// The first row of the table whose tests pass; 11 where none does.
+// The row of the table whose tests pass; 11 where none does. By its kind first, so that only that row is tested.
 #[tactic(auto, unfolding(crate::specs::Reading::seen))]
 pub fn seen(bytes: &[u8]) -> Result<Frame, Refusal>
     ensures { result ≡ seen bytes.now }
