@@ -49,6 +49,7 @@ use Rattle.figures.proofs.rights.Right.is_of.Reads as Right-is-of
 use Rattle.figures.proofs.rights.Right.fits.Reads as Right-fits
 use Rattle.figures.proofs.rights.Right.charged.Reads as Right-charged
 use Rattle.figures.proofs.rights.Right.free_if_of.Reads as Right-free-if-of
+use Rattle.figures.proofs.rights.Right.unless_of.Reads as Right-unless-of
 use Rattle.places.proofs.Tight.{verdict_once}
 
 pub Credit-of_once : (κs : Lfts 0) (a : _) (r r' : _) (s s' : _) → Credit-of.Post κs a r s → Credit-of.Post κs a r' s' → r ≡ r'
@@ -198,3 +199,6 @@ Right-charged_once κs a r r' s s' p q = p ∙ sym q
 -- the right in its place
 pub Right-free_if_of_once : (κs : Lfts 1) (a : _) (r r' : _) (s s' : _) → Right-free-if-of.Post κs a r s → Right-free-if-of.Post κs a r' s' → s.0.now ≡ s'.0.now
 Right-free_if_of_once κs a r r' s s' p q = p ∙ sym q
+
+pub Right-unless_of_once : (κs : Lfts 0) (a : _) (r r' : _) (s s' : _) → Right-unless-of.Post κs a r s → Right-unless-of.Post κs a r' s' → r ≡ r'
+Right-unless_of_once κs a r r' s s' p q = p ∙ sym q

@@ -93,4 +93,13 @@ impl Right {
             *self = FREE_RIGHT;
         }
     }
+
+    // The right, or a free place where it is of the ID. By value, for callers that keep no right.
+    pub fn unless_of(self, id: KeyId) -> Right
+        ensures { result ≡ unless_of id self }
+    {
+        let mut right = self;
+        right.free_if_of(id);
+        right
+    }
 }
