@@ -94,7 +94,7 @@ impl Right {
         }
     }
 
-    // The right, or a free place where it is of the ID. By value, for callers that keep no right.
+    // The right, or a free place where it is of the ID. By value: 01, The shape of each place.
     pub fn unless_of(self, id: KeyId) -> Right
         ensures { result ≡ unless_of id self }
     {
