@@ -89,13 +89,13 @@ impl Book {
         }
     }
 
-    // What a frame of each kind does to a book where it lies.
+    // What a frame of each kind does to a book where it lies; the key bytes beside it are still in the byte string.
     #[tactic(auto, unfolding(rules::specs::Rules::act))]
-    fn serve_frame(&mut self, frame: Frame, bytes: &[u8], key: &mut [u8; KEY_BYTES]) -> Reply
-        ensures { ends self.new result key.new ≡ act (pages self.old) key.old frame (key_beside bytes.now) }
+    fn serve_frame(&mut self, frame: Frame, string: &[u8], key: &mut [u8; KEY_BYTES]) -> Reply
+        ensures { ends self.new result key.new ≡ act (pages self.old) key.old frame (key_beside string.now) }
     {
         match frame {
-            Frame::Load(load) => self.serve_load(load, bytes),
+            Frame::Load(load) => self.serve_load(load, string),
             Frame::Message(message) => self.serve_message(message, key),
             Frame::Report(name) => self.reported(name),
             Frame::Delete(name) => self.serve_delete(name),
@@ -111,7 +111,7 @@ impl Book {
             return Reply::Refused(Refusal::BufferLength);
         };
         match seen(frame) {
-            Ok(read) => self.serve_frame(read, frame, lent),
+            Ok(found) => self.serve_frame(found, frame, lent),
             Err(why) => Reply::Refused(why),
         }
     }

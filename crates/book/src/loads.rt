@@ -126,14 +126,14 @@ impl Book {
 
     // On a book where it lies. The key bytes beside the frame are read only where they are stored.
     #[tactic(auto, unfolding(rules::specs::Rules::load))]
-    pub(crate) fn serve_load(&mut self, frame: Load, bytes: &[u8]) -> Reply
-        ensures { (u : List ℕ) → ends self.new result u ≡ load (pages self.old) u frame (key_beside bytes.now) }
+    pub(crate) fn serve_load(&mut self, frame: Load, string: &[u8]) -> Reply
+        ensures { (u : List ℕ) → ends self.new result u ≡ load (pages self.old) u frame (key_beside string.now) }
     {
         if is_deletion(frame.name.spe) {
             return self.serve_erase(frame);
         }
         match self.storing(frame) {
-            Ok(storing) => self.keep(frame, key_beside(bytes), storing),
+            Ok(storing) => self.keep(frame, key_beside(string), storing),
             Err(reply) => reply,
         }
     }

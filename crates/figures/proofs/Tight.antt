@@ -1,7 +1,10 @@
 -- Each promise of a public function has one outcome: two that it allows coincide. It is stated of the promises themselves. Assumes nothing.
-use mathlib.Core.Path.{◌≡◌, sym, ◌∙◌}
+use mathlib.Core.Path.{◌≡◌, sym, ap, ◌∙◌}
+use mathlib.Core.Bool.{Bool, ◌&&◌}
 use contract.Lifetimes.{Lfts}
-use Rattle.std.proofs.Math.Bool.{and_assoc}
+use Rattle.std.proofs.Math.Bool.{and_assoc, and_comm}
+use lib.Dec.{eqb}
+use Rattle.figures.specs.Types.{KeyId}
 use Rattle.figures.specs.Names.{same_id, same_name}
 use Rattle.figures.proofs.accounts.Credit.of.Reads as Credit-of
 use Rattle.figures.proofs.accounts.Account.can_pay.Reads as Account-can-pay
@@ -134,16 +137,27 @@ Timestamp-cmp_once κs a r r' s s' p q = p ∙ sym q
 pub KeyId-same_once : (κs : Lfts 2) (a : _) (r r' : _) (s s' : _) → KeyId-eq.Post κs a r s → KeyId-eq.Post κs a r' s' → r ≡ r'
 KeyId-same_once κs a r r' s s' p q = p ∙ sym q
 
-pub KeyId-eq_is : (κs : Lfts 2) (a : _) (r : _) (s : _) → KeyId-eq.Post κs a r s → r ≡ same_id a.0.now a.1.0.now
+-- a derived `==` asks the number before the group, as the fields stand
+asked : (x y : KeyId)
+    → (eqb x.domain.0 y.domain.0 && (eqb x.domain.1 y.domain.1 && eqb x.domain.2 y.domain.2) && (eqb x.number y.number && eqb x.group y.group)) ≡ same_id x y
 unfolding same_id
-KeyId-eq_is κs a r s p = p ∙ simp and_assoc
+asked x y =
+    ap (λ (b : Bool). eqb x.domain.0 y.domain.0 && (eqb x.domain.1 y.domain.1 && eqb x.domain.2 y.domain.2) && b) (and_comm (eqb x.number y.number) (eqb x.group y.group))
+    ∙ simp and_assoc
+
+pub KeyId-eq_is : (κs : Lfts 2) (a : _) (r : _) (s : _) → KeyId-eq.Post κs a r s → r ≡ same_id a.0.now a.1.0.now
+KeyId-eq_is κs a r s p = p ∙ asked a.0.now a.1.0.now
 
 pub RightName-same_once : (κs : Lfts 2) (a : _) (r r' : _) (s s' : _) → RightName-eq.Post κs a r s → RightName-eq.Post κs a r' s' → r ≡ r'
 RightName-same_once κs a r r' s s' p q = p ∙ sym q
 
 pub RightName-eq_is : (κs : Lfts 2) (a : _) (r : _) (s : _) → RightName-eq.Post κs a r s → r ≡ same_name a.0.now a.1.0.now
-unfolding same_id same_name
-RightName-eq_is κs a r s p = p ∙ simp and_assoc
+unfolding same_name
+RightName-eq_is κs a r s p =
+    let x = a.0.now in
+    let y = a.1.0.now in
+    let rest = eqb x.interval.low.0 y.interval.low.0 && eqb x.interval.high.0 y.interval.high.0 && eqb x.spe y.spe in
+    p ∙ ap (λ (b : Bool). b && rest) (asked x.id y.id) ∙ simp and_assoc
 
 pub Interval-covers_once : (κs : Lfts 0) (a : _) (r r' : _) (s s' : _) → Interval-covers.Post κs a r s → Interval-covers.Post κs a r' s' → r ≡ r'
 Interval-covers_once κs a r r' s s' p q = p ∙ sym q

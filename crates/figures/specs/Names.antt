@@ -8,8 +8,8 @@ same_id a b =
     eqb a.domain.0 b.domain.0
     && eqb a.domain.1 b.domain.1
     && eqb a.domain.2 b.domain.2
-    && eqb a.number b.number
     && eqb a.group b.group
+    && eqb a.number b.number
 
 -- 01, Rights: a right is named by ID, TS low, TS high and SPE
 unfoldable pub same_name : RightName → RightName → Bool

@@ -17,6 +17,7 @@ pub struct Timestamp(pub u32);
 #[derive(Clone, Copy, PartialEq, Eq)]
 pub struct KeyDomain(pub u8, pub u8, pub u8);
 
+// The number before the group: a derived `==` asks in this order, and the number tells IDs apart first.
 #[derive(Clone, Copy, PartialEq, Eq)]
 pub struct KeyId {
     pub domain: KeyDomain,

@@ -6,7 +6,7 @@ use crate::accounts::Account;
 use crate::held::Held;
 use crate::limits::NO_SPE;
 use crate::loads::Message;
-use crate::names::{Interval, KeyId, NO_ID, RightName, Timestamp, Tokens, TrafficKeys};
+use crate::names::{Interval, KeyId, NO_ID, RightName, Timestamp, TrafficKeys};
 use crate::policies::is_live;
 
 // No `Option<Right>`, as for a key: an array of right structs, and what a free place holds (`free_right`).
@@ -94,7 +94,7 @@ impl Right {
         }
     }
 
-    // The right, or a free place where it is of the ID. By value: 01, The shape of each place.
+    // The same by value. No call uses it; its promise stays.
     pub fn unless_of(self, id: KeyId) -> Right
         ensures { result ≡ unless_of id self }
     {

@@ -132,7 +132,7 @@ impl Reply {
     }
 
     /// The reply of these bytes. The library writes no others: what it writes is `reply_bytes` of a reply, which has these cases and no more.
-    /// The code says which numbers are read.
+    /// A `match`, so that only what the code shows is read; a test holds its numbers to those of [`Reply::code`].
     #[inline]
     pub(crate) fn of_bytes(bytes: [u8; REPLY_BYTES]) -> Reply {
         let [code, place, v0, v1, v2, v3, p0, p1, p2, p3, r0, r1, r2, r3] = bytes;
